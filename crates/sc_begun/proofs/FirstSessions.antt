@@ -28,7 +28,7 @@ use Rattle.sc_hosts.specs.Nets.{host_at}
 use Rattle.sc_hosts.specs.Runs.{after_step, net_from as chained, chained_from, quiet_host, start}
 use Rattle.sc_hosts.specs.Sessions.{Form, Turn}
 use Rattle.sc_hosts.specs.Steps.{closed_turn, without_application as invalidated, live_at, before_delivery as stepped, net_after_turn as turned, turned_live, turns, turns_first, withdrawn, without_live}
-use Rattle.sc_hosts.specs.Transacting.{tidied}
+use Rattle.sc_hosts.specs.Transacting.{without_ended}
 use Rattle.sc_lasting.specs.Lasting.{All}
 use Rattle.sc_lasting.proofs.Parts.{all-append, all-first, all-found, all-removed}
 use Rattle.sc_lasting.proofs.Shared.{all-at}
@@ -118,9 +118,9 @@ module _ {S : Type 0} (Good : S → Type 0) where
     -- ## Turns
 
     invalidated-keeps : (app : AppId) (session : Session) (inbox : List Waiting) (net : Net S) → Keeps net (invalidated setup app session inbox net)
-    unfolding invalidated without_live tidied
+    unfolding invalidated without_live without_ended
     invalidated-keeps app session inbox net =
-        λ all. all-nth AreGood app.host (λ host. tidied (record host { sessions = remove_first (is_live app.serial) host.sessions })) _ (λ host at good. all-removed (λ (live : Live S). Good live.session) (is_live app.serial) host.sessions good)
+        λ all. all-nth AreGood app.host (λ host. without_ended (record host { sessions = remove_first (is_live app.serial) host.sessions })) _ (λ host at good. all-removed (λ (live : Live S). Good live.session) (is_live app.serial) host.sessions good)
         (obeyed-walks H Keeps host-law net-law setup app _ net all)
 
     closed_turn-keeps : (app : AppId) (done : Outcome) (ends : Bool) (net : Net S) → Keeps net (closed_turn setup app done ends net)

@@ -6,7 +6,7 @@ use Rattle.sc_forms.specs.Simulations.{map_live, map_host, map_taken}
 use Rattle.sc_tokens.specs.Bytes.{Bytes}
 use Rattle.sc_hosts.specs.Inboxes.{is_live, live_in, with_event, without_answer as quiet, queue, is_full, is_full_at}
 use Rattle.sc_hosts.specs.TakingResponses.{take_provisional as told, told_by, cancelling, with_reply, response_for, response_to, take_response}
-use Rattle.sc_hosts.specs.Transacting.{lives_here, is_kept_client, is_kept_server, tidied, is_cancel_client, client_for, pass_client, ringing_branches, pass_server}
+use Rattle.sc_hosts.specs.Transacting.{lives_here, is_kept_client, is_kept_server, without_ended, is_cancel_client, client_for, pass_client, ringing_branches, pass_server}
 use Rattle.sc_model.specs.SessionStates.{is_final}
 use Rattle.sc_parts.specs.declared.transactions.ClientItem.{ClientItem}
 use Rattle.sc_parts.specs.declared.transactions.ClientOut.{ClientOut}
@@ -38,8 +38,8 @@ module _ {S T : Type 0} (change : S → T) where
   unfolding is_kept_server
   is_kept_server-maps host server = rw lives_here-maps refl
 
-  pub tidied-maps : (host : Host S) → tidied (map_host change host) ≡ map_host change (tidied host)
-  unfolding tidied map_host
+  pub tidied-maps : (host : Host S) → without_ended (map_host change host) ≡ map_host change (without_ended host)
+  unfolding without_ended map_host
   tidied-maps host = rw (filter-same _ _ (is_kept_client-maps host) host.clients, filter-same _ _ (is_kept_server-maps host) host.servers) refl
 
   pub client_for-maps : (salt : Bytes) (epoch : ℕ) (from : Peer) (response : Response) (host : Host S) → client_for salt epoch from response (map_host change host) ≡ client_for salt epoch from response host

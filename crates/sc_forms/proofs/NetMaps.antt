@@ -11,7 +11,7 @@ use Rattle.sc_hosts.specs.Destinations.{next_uri, destination}
 use Rattle.sc_hosts.specs.Messages.{cancel_of}
 use Rattle.sc_hosts.specs.Nets.{host_at, change_host, with_message as put, put_reply, with_host_after as placed, queued_at, queue_for, tell_own, send_to, leave_for, leave, with_routes, begin_by, has_named, named_from, named_host, send_named, send_later, acknowledge, send_cancel, cancel_by, cancel_for, client_at, answered_server, respond_by, server_at, obey, after_orders as obeyed, is_busy, weight}
 use Rattle.sc_hosts.specs.TakingResponses.{cancelling}
-use Rattle.sc_hosts.specs.Transacting.{is_proceeding, is_invite_client, state_of_client, is_invite_server, tidied, out_of_client, pass_client, with_client, is_server}
+use Rattle.sc_hosts.specs.Transacting.{is_proceeding, is_invite_client, state_of_client, is_invite_server, without_ended, out_of_client, pass_client, with_client, is_server}
 use Rattle.sc_hosts.specs.Words.{does_not_exist, not_found, unavailable}
 use Rattle.sc_model.specs.OwnHosts.{is_own}
 use Rattle.sc_model.specs.ServerTransactions.{is_sent}
@@ -176,14 +176,14 @@ module _ {S T : Type 0} (change : S → T) where
   client_at-maps app branch (Some host) = refl
 
   answered-maps : (event now : ℕ) (response : Response) (host : Host S)
-      → tidied (record (map_host change host) { servers = change_first (is_server event) (answered_server response.code now response) (map_host change host).servers })
-      ≡ map_host change (tidied (record host { servers = change_first (is_server event) (answered_server response.code now response) host.servers }))
+      → without_ended (record (map_host change host) { servers = change_first (is_server event) (answered_server response.code now response) (map_host change host).servers })
+      ≡ map_host change (without_ended (record host { servers = change_first (is_server event) (answered_server response.code now response) host.servers }))
   unfolding map_host
   answered-maps event now response host = tidied-maps change (record host { servers = change_first (is_server event) (answered_server response.code now response) host.servers })
 
   answered_at-maps : (number event now : ℕ) (response : Response) (net : Net S)
-      → change_host number (λ host. tidied (record host { servers = change_first (is_server event) (answered_server response.code now response) host.servers })) (map_net change net)
-      ≡ map_net change (change_host number (λ host. tidied (record host { servers = change_first (is_server event) (answered_server response.code now response) host.servers })) net)
+      → change_host number (λ host. without_ended (record host { servers = change_first (is_server event) (answered_server response.code now response) host.servers })) (map_net change net)
+      ≡ map_net change (change_host number (λ host. without_ended (record host { servers = change_first (is_server event) (answered_server response.code now response) host.servers })) net)
   answered_at-maps number event now response net = change_host-maps number _ _ (answered-maps event now response) net
 
   respond_by-maps : (number event : ℕ) (response : Response) (server : Option Server) (net : Net S)

@@ -12,7 +12,7 @@ use Rattle.sc_hosts.specs.Nets.{host_at, change_host}
 use Rattle.sc_hosts.specs.Sessions.{Turn, Form}
 use Rattle.sc_hosts.specs.Steps.{live_of, live_at, ringing_at, outcome_by, turned_live, without_live, with_ready, inbox_of, without_application as invalidated, closed_turn, net_after_turn as turned, turn_of, turns_first, turns, withdrawn, before_delivery as stepped}
 use Rattle.sc_hosts.specs.Inboxes.{is_live}
-use Rattle.sc_hosts.specs.Transacting.{tidied}
+use Rattle.sc_hosts.specs.Transacting.{without_ended}
 use Rattle.sc_parts.specs.declared.setup.Setup.{Setup}
 use Rattle.sc_state.specs.Hosts.{Host}
 use Rattle.sc_state.specs.declared.host.Live.{Live}
@@ -47,7 +47,7 @@ module _ {S T : Type 0} (change : S → T) where
   ringing_at-maps app net = rw (host_at-maps change app.host net) (ringing_by-maps app (host_at app.host net))
 
   removed-maps : (serial : ℕ) (host : Host S)
-      → tidied (record (map_host change host) { sessions = remove_first (is_live serial) (map_host change host).sessions }) ≡ map_host change (tidied (record host { sessions = remove_first (is_live serial) host.sessions }))
+      → without_ended (record (map_host change host) { sessions = remove_first (is_live serial) (map_host change host).sessions }) ≡ map_host change (without_ended (record host { sessions = remove_first (is_live serial) host.sessions }))
   unfolding map_host map_live
   removed-maps serial host =
       rw (remove_first-maps (map_live change) (is_live serial) host.sessions) (tidied-maps change (record host { sessions = remove_first (is_live serial) host.sessions }))

@@ -38,7 +38,7 @@ use Rattle.sc_hosts.specs.Messages.{ack_of, cancel_of, kin, own_response, trying
 use Rattle.sc_hosts.specs.Sessions.{Form}
 use Rattle.sc_hosts.specs.Taking.{again_if, take_new as begun, take_cancel as cancelled, last_again, queue_later, refuse, take_repeated as repeated, take_initial, takes, server_after_trying as tried, without_own_route as unrouted, with_server, with_trying, server_for}
 use Rattle.sc_hosts.specs.TakingResponses.{cancelling, response_for, response_to, take_response, take_provisional as told, told_by, with_reply}
-use Rattle.sc_hosts.specs.Transacting.{branch_of, client_for, client_passed, has_final, is_answered_by, is_cancel_client, is_client, is_kept_client, is_over, is_repeated_by, is_server, method_of, pass_client, pass_server, server_passed, state_of_client, takes_from, tidied, top_via, with_client, is_acked_by, is_cancelled_by}
+use Rattle.sc_hosts.specs.Transacting.{branch_of, client_for, client_passed, has_final, is_answered_by, is_cancel_client, is_client, is_kept_client, is_over, is_repeated_by, is_server, method_of, pass_client, pass_server, server_passed, state_of_client, takes_from, without_ended, top_via, with_client, is_acked_by, is_cancelled_by}
 use Rattle.sc_hosts.specs.Words.{does_not_exist, ok as fine_reason, trying, unavailable}
 use Rattle.sc_lasting.specs.Lasting.{All}
 use Rattle.sc_lasting.proofs.Began.{test-found}
@@ -184,7 +184,7 @@ module _ (salt : Bytes) (epoch : ℕ) (C : Client) where
 
     pub pass_client-well : (number : ℕ) (a : AppId) (b : ℕ) (of_cancel : Bool) (item : ClientItem) (host : Host Session) → same_bytes B (branch_text salt epoch a b) ≡ false → Well number host
         → Well number (pass_client a b of_cancel item host)
-    unfolding pass_client tidied
+    unfolding pass_client without_ended
     pass_client-well number a b of_cancel item host away ok = (
       all-filter Right _ _ (all-first Right (is_client a b of_cancel) (client_passed item) host.clients (λ x found right. passed-right a b of_cancel item x away (test-found (is_client a b of_cancel) host.clients x found) right) ok.0),
       all-filter LastFree _ host.servers ok.1,
@@ -192,7 +192,7 @@ module _ (salt : Bytes) (epoch : ℕ) (C : Client) where
     )
 
     pass_server-well : (number event : ℕ) (item : ServerItem) (host : Host Session) → Well number host → Well number (pass_server event item host)
-    unfolding pass_server server_passed tidied
+    unfolding pass_server server_passed without_ended
     pass_server-well number event item host ok = (
       all-filter Right _ host.clients ok.0,
       all-filter LastFree _ _ (all-first LastFree (is_server event) (server_passed item) host.servers (λ server found free. free) ok.1),

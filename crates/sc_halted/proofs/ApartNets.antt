@@ -45,7 +45,7 @@ use Rattle.sc_hosts.specs.Nets.{acknowledge, answered_server, begin_by, cancel_b
 use Rattle.sc_hosts.specs.Steps.{with_ready}
 use Rattle.sc_hosts.specs.Taking.{takes}
 use Rattle.sc_hosts.specs.TakingResponses.{cancelling}
-use Rattle.sc_hosts.specs.Transacting.{client_passed, is_client, is_invite_client, is_invite_server, is_over, is_proceeding, is_server, out_of_client, pass_client, state_of_client, tidied, with_client}
+use Rattle.sc_hosts.specs.Transacting.{client_passed, is_client, is_invite_client, is_invite_server, is_over, is_proceeding, is_server, out_of_client, pass_client, state_of_client, without_ended, with_client}
 use Rattle.sc_once.proofs.ChangedHosts.{changed_hosts}
 use Rattle.sc_lasting.specs.Lasting.{All}
 use Rattle.sc_lasting.proofs.Parts.{all-append, all-both, all-filter, all-first, all-found, all-map}
@@ -236,7 +236,7 @@ module _ (salt : Bytes) (epoch : ℕ) (C : Client) (fresh : is_over (state_of_cl
   ack-moves config of request net free well = put-moves ⊥ of.host _ (messages.Request request) None net free well
 
   passed-moves : (of : AppId) (branch : ℕ) (item : ClientItem) (net : Net Session) → OtherNet net → Before net (change_host of.host (pass_client of branch false item) net)
-  unfolding pass_client client_passed tidied
+  unfolding pass_client client_passed without_ended
   passed-moves of branch item net well =
       change-moves ⊥ of.host (pass_client of branch false item) net
       (λ host ok. (
@@ -277,11 +277,11 @@ module _ (salt : Bytes) (epoch : ℕ) (C : Client) (fresh : is_over (state_of_cl
   answered-free event response now servers free all = all-first (LastFree salt epoch C) (is_server event) (answered_server response.code now response) servers (λ server found was. free) all
 
   respond-moves : (number event : ℕ) (response : Response) (server : Option Server) (net : Net Session) → Free salt epoch C response.head.via → OtherNet net → Before net (respond_by number event response server net)
-  unfolding respond_by tidied IsFree
+  unfolding respond_by without_ended IsFree
   respond-moves number event response None net free well = still ⊥ net net refl refl well
   respond-moves number event response (Some server) net free well =
-      let changed : Net Session = change_host number (λ host. tidied (record host { servers = change_first (is_server event) (answered_server response.code net.moment response) host.servers })) net in
-      let one = change-moves ⊥ number (λ host. tidied (record host { servers = change_first (is_server event) (answered_server response.code net.moment response) host.servers })) net
+      let changed : Net Session = change_host number (λ host. without_ended (record host { servers = change_first (is_server event) (answered_server response.code net.moment response) host.servers })) net in
+      let one = change-moves ⊥ number (λ host. without_ended (record host { servers = change_first (is_server event) (answered_server response.code net.moment response) host.servers })) net
       (λ host ok. (
         all-filter (Right salt epoch C ⊥ fresh) _ host.clients ok.0,
         all-filter (LastFree salt epoch C) _ _ (answered-free event response net.moment host.servers free ok.1),

@@ -40,7 +40,7 @@ use Rattle.sc_hosts.specs.Runs.{after_delivery as delivered}
 use Rattle.sc_hosts.specs.Steps.{live_at}
 use Rattle.sc_hosts.specs.Taking.{takes}
 use Rattle.sc_hosts.specs.TakingResponses.{cancelling, response_for, response_to, take_response, take_provisional as told, told_by, with_reply}
-use Rattle.sc_hosts.specs.Transacting.{branch_of, client_for, is_answered_by, is_cancel_client, is_over, method_of, out_of_client, pass_client, state_of_client, takes_from, tidied, top_via, with_client}
+use Rattle.sc_hosts.specs.Transacting.{branch_of, client_for, is_answered_by, is_cancel_client, is_over, method_of, out_of_client, pass_client, state_of_client, takes_from, without_ended, top_via, with_client}
 use Rattle.sc_hosts.proofs.Deliveries.{one-delivery}
 use Rattle.sc_walks.proofs.WalkNets.{delivered-walks}
 use Rattle.sc_once.specs.Growing.{HostGrows as CountGrows, KnownIn, NetGrows as NetCounts}
@@ -197,7 +197,7 @@ module _ (setup : Setup) (epoch : ℕ) (app : AppId) (branch now place : ℕ) (s
       told-is at count host = rw (no_cancel, final) refl
 
       passed-sessions : (of_cancel : Bool) (item : ClientItem) (host : Host Session) → (pass_client app branch of_cancel item host).sessions ≡ host.sessions
-      unfolding pass_client tidied
+      unfolding pass_client without_ended
       passed-sessions of_cancel item host = refl
 
       response-sessions : (at count : ℕ) (host : Host Session) (live : Live Session) → live_in app.serial host ≡ Some live

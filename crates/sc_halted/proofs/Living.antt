@@ -15,7 +15,7 @@ use Rattle.sc_hosts.specs.Inboxes.{is_live, live_in, queue, without_answer as qu
 use Rattle.sc_hosts.specs.Nets.{change_host, host_at}
 use Rattle.sc_hosts.specs.Steps.{live_at, live_of, without_live}
 use Rattle.sc_hosts.specs.Ticks.{mark_fired}
-use Rattle.sc_hosts.specs.Transacting.{is_same_app, tidied}
+use Rattle.sc_hosts.specs.Transacting.{is_same_app, without_ended}
 use Rattle.sc_walks.specs.Walks.{HostLaws, NetLaws}
 use Rattle.sc_once.proofs.Finding.{slice_get-other}
 
@@ -149,7 +149,7 @@ module _ (app : AppId) where
 
   -- another session ends
   pub without-lives : (other : AppId) (net : Net Session) → (is_same_app app other ≡ false) → NetLives net (without_live other net)
-  unfolding without_live tidied
+  unfolding without_live without_ended
   without-lives other net away =
       changed-lives other.host _ net (λ host at same found is. lives-removed host.sessions app.serial other.serial (apart (app.host == other.host) (app.serial == other.serial) (same-test app.host other.host (sym same)) away) found is)
     where

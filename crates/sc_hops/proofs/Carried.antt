@@ -43,7 +43,7 @@ use Rattle.sc_hosts.specs.Sessions.{Form}
 use Rattle.sc_hosts.specs.Settle.{steps, settle}
 use Rattle.sc_hosts.specs.Taking.{named_live, is_named_live, names, own_uri, without_own_route as unrouted, takes}
 use Rattle.sc_hosts.specs.TakingResponses.{cancelling}
-use Rattle.sc_hosts.specs.Transacting.{is_client, tidied, pass_client, with_client, method_of}
+use Rattle.sc_hosts.specs.Transacting.{is_client, without_ended, pass_client, with_client, method_of}
 use Rattle.sc_lasting.specs.Lasting.{All}
 use Rattle.sc_lasting.proofs.Began.{test-found}
 use Rattle.sc_lasting.proofs.Parts.{all-append, all-filter, all-found}
@@ -248,7 +248,7 @@ module _ {S : Type 0} (Way Sound Told Sent : Request → Type 0) (setup : Setup)
 
   respond_by-holds : (number event : ℕ) (response : Response) (server : Option Server) (net : Net S) → Holds net
       → Holds (respond_by number event response server net)
-  unfolding respond_by tidied
+  unfolding respond_by without_ended
   respond_by-holds number event response None net holds = holds
   respond_by-holds number event response (Some server) net holds =
       if-holds _ _ net (put-holds number server.peer _ None _ (response-way Way response) (changes number _ net (λ host at good. (good.0, all-filter (λ (client : Client). Sound client.request) _ host.clients good.1)) holds)) holds

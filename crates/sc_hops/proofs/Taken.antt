@@ -33,7 +33,7 @@ use Rattle.sc_hosts.specs.Messages.{ack_of, cancel_of, kin, trying_response}
 use Rattle.sc_hosts.specs.Sessions.{Form}
 use Rattle.sc_hosts.specs.Taking.{take_cancel as cancelled, last_again, again_if, take_repeated as repeated, begun_live, refuse, named_live, own_uri, without_own_route as unrouted, server_after_trying as tried, with_server, with_trying, queue_later, take_new as begun, take_initial, takes}
 use Rattle.sc_hosts.specs.TakingResponses.{cancelling, take_provisional as told, told_by, with_reply, response_for, response_to, take_response}
-use Rattle.sc_hosts.specs.Transacting.{client_for, client_passed, has_final, is_answered_by, is_server, method_of, tidied, pass_client, pass_server}
+use Rattle.sc_hosts.specs.Transacting.{client_for, client_passed, has_final, is_answered_by, is_server, method_of, without_ended, pass_client, pass_server}
 use Rattle.sc_hosts.specs.Words.{trying}
 use Rattle.sc_lasting.specs.Lasting.{All}
 use Rattle.sc_lasting.proofs.Parts.{all-append, all-filter, all-first, all-found}
@@ -95,12 +95,12 @@ module _ {S : Type 0} (Way Sound : Request → Type 0) (Fits : AppId → Queued 
 
   pub pass_client-good : (app : AppId) (branch : ℕ) (cancelling : Bool) (item : ClientItem) (host : Host S) → Good host
       → Good (pass_client app branch cancelling item host)
-  unfolding pass_client client_passed tidied
+  unfolding pass_client client_passed without_ended
   pass_client-good app branch cancelling item host good =
       (good.0, all-filter (λ (client : Client). Sound client.request) _ _ (all-first (λ (client : Client). Sound client.request) _ (client_passed item) host.clients (λ client found sound. sound) good.1))
 
   pass_server-good : (event : ℕ) (item : ServerItem) (host : Host S) → Good host → Good (pass_server event item host)
-  unfolding pass_server tidied
+  unfolding pass_server without_ended
   pass_server-good event item host good = (good.0, all-filter (λ (client : Client). Sound client.request) _ host.clients good.1)
 
   -- ## Responses

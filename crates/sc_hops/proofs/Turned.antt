@@ -22,7 +22,7 @@ use Rattle.sc_hosts.specs.Nets.{change_host, after_orders as obeyed}
 use Rattle.sc_hosts.specs.Runs.{after_step}
 use Rattle.sc_hosts.specs.Sessions.{Form, Turn}
 use Rattle.sc_hosts.specs.Steps.{closed_turn, without_application as invalidated, live_at, outcome_by, before_delivery as stepped, turn_of, net_after_turn as turned, turned_live, turns, turns_first, with_ready, without_live}
-use Rattle.sc_hosts.specs.Transacting.{tidied}
+use Rattle.sc_hosts.specs.Transacting.{without_ended}
 use Rattle.sc_lasting.specs.Lasting.{All}
 use Rattle.sc_lasting.proofs.Parts.{all-filter, all-first, all-removed}
 use Rattle.sc_lasting.proofs.Shared.{all-rest}
@@ -54,7 +54,7 @@ module _ {S : Type 0} (Way Sound Told Sent : Request → Type 0) (setup : Setup)
   changed-holds number change net keeps holds = changes {S = S} Way Sound Told Sent setup epoch base kinds number change net (λ host at good. keeps host good) holds
 
   without_live-holds : (app : AppId) (net : Net S) → Holding net → Holding (without_live app net)
-  unfolding without_live tidied
+  unfolding without_live without_ended
   without_live-holds app net holds = changed-holds app.host _ net (λ host good. (all-removed (Right app.host) (is_live app.serial) host.sessions good.0, all-filter (λ (client : Client). Sound client.request) _ host.clients good.1)) holds
 
   obeys : (app : AppId) (given : List Order) (net : Net S) → All (IsOrdered setup.config Way Sound) given → Holding net → Holding (obeyed setup app given net)

@@ -45,7 +45,7 @@ use Rattle.sc_hosts.specs.Sessions.{Form}
 use Rattle.sc_hosts.specs.Inboxes.{queue}
 use Rattle.sc_hosts.specs.TakingResponses.{cancelling}
 use Rattle.sc_hosts.specs.Taking.{named_live, takes}
-use Rattle.sc_hosts.specs.Transacting.{tidied, method_of, is_client, is_invite_client, is_server, is_invite_server, is_proceeding, out_of_client, pass_client, with_client, state_of_client}
+use Rattle.sc_hosts.specs.Transacting.{without_ended, method_of, is_client, is_invite_client, is_server, is_invite_server, is_proceeding, out_of_client, pass_client, with_client, state_of_client}
 use Rattle.sc_hosts.specs.Words.{does_not_exist, not_found, unavailable}
 use Rattle.sc_model.specs.DialogRequests.{cancel}
 
@@ -237,7 +237,7 @@ respond_by number event response (Some server) net =
     then with_message number server.peer (messages.Response response) None
     (change_host number
     (λ host.
-    tidied
+    without_ended
     (record host {
       servers = change_first (is_server event)
           (answered_server response.code net.moment response) host.servers;

@@ -23,7 +23,7 @@ use Rattle.sc_hosts.specs.Nets.{after_orders, change_host, host_at, queue_for}
 use Rattle.sc_hosts.specs.Sessions.{Form, Turn, entries_of}
 use Rattle.sc_hosts.specs.Finishing.{goodbye, is_ready, outcome}
 use Rattle.sc_hosts.specs.Inboxes.{is_live, live_in}
-use Rattle.sc_hosts.specs.Transacting.{tidied, ringing_branches}
+use Rattle.sc_hosts.specs.Transacting.{without_ended, ringing_branches}
 use Rattle.sc_hosts.specs.Arrivals.{after_arrival, bad_by}
 use Rattle.sc_hosts.specs.Ticks.{net_after_loss, net_after_tick}
 
@@ -68,7 +68,9 @@ turned_live form config now turn done live = record live {
 unfoldable pub without_live : {S : Type 0} → AppId → Net S → Net S
 without_live app net =
     change_host app.host
-    (λ host. tidied (record host { sessions = remove_first (is_live app.serial) host.sessions }))
+    (λ host.
+    without_ended
+    (record host { sessions = remove_first (is_live app.serial) host.sessions }))
     net
 
 -- `Ready` is queued where the session is ready, its flag is set and no event waits

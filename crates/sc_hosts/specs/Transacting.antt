@@ -30,7 +30,7 @@ pub use
 unfoldable pub use
     Rattle.sc_state.specs.Standing.{state_of_client, state_of_server, due_of_client, due_of_server, is_client}
 unfoldable pub use
-    Rattle.sc_state.specs.Keeping.{lives_here, is_kept_client, is_kept_server, tidied}
+    Rattle.sc_state.specs.Keeping.{lives_here, is_kept_client, is_kept_server, without_ended}
 
 -- ## Ends of a transaction
 
@@ -78,7 +78,7 @@ client_passed item client = record client { passed = item ∷ client.passed }
 -- an item passes a client transaction
 unfoldable pub pass_client : {S : Type 0} → AppId → ℕ → Bool → ClientItem → Host S → Host S
 pass_client app branch cancelling item host =
-    tidied
+    without_ended
     (record host {
       clients = change_first (is_client app branch cancelling) (client_passed item) host.clients;
     })
@@ -142,5 +142,5 @@ server_passed item server = record server { passed = item ∷ server.passed }
 -- an item passes the server transaction of this event
 unfoldable pub pass_server : {S : Type 0} → ℕ → ServerItem → Host S → Host S
 pass_server event item host =
-    tidied
+    without_ended
     (record host { servers = change_first (is_server event) (server_passed item) host.servers })

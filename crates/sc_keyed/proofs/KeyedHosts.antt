@@ -34,7 +34,7 @@ use Rattle.sc_hosts.specs.Sessions.{Form}
 use Rattle.sc_hosts.specs.Taking.{begun_live, take_cancel as cancelled, last_again, again_if, take_repeated as repeated, refuse, with_server, with_trying, server_after_trying as tried, queue_later, is_named_live, named_live, own_uri, take_new as begun, take_initial, takes}
 use Rattle.sc_hosts.specs.TakingResponses.{take_provisional as told, told_by, cancelling, with_reply, response_for, response_to, take_response}
 use Rattle.sc_hosts.specs.Ticks.{mark_fired}
-use Rattle.sc_hosts.specs.Transacting.{client_for, is_answered_by, method_of, out_of_client, pass_client, pass_server, server_passed, tidied, with_client}
+use Rattle.sc_hosts.specs.Transacting.{client_for, is_answered_by, method_of, out_of_client, pass_client, pass_server, server_passed, without_ended, with_client}
 use Rattle.sc_hosts.proofs.Deliveries.{same_bytes-equal}
 use Rattle.sc_lives.specs.Numbers.{IsNumbered, IsRising}
 use Rattle.sc_lives.proofs.Serials.{append-rising, change-rising}
@@ -238,7 +238,7 @@ module _ {S : Type 0} (form : Form S) (Own : AppId → Type 0) (low high number 
 
   pub pass_client-keyed : (app : AppId) (branch : ℕ) (cancelling : Bool) (item : ClientItem) (count : ℕ) (host : Host S) → Keyed count host
       → Keyed count (pass_client app branch cancelling item host)
-  unfolding pass_client tidied
+  unfolding pass_client without_ended
   pass_client-keyed app branch cancelling item count host keyed = record {
     clients = keyed-passed Own low number host.last (counter_at form host.sessions) app branch cancelling item _ host.clients keyed.clients;
     servers = servers-kept number host.last count _ host.servers keyed.servers;
@@ -258,8 +258,8 @@ module _ {S : Type 0} (form : Form S) (Own : AppId → Type 0) (low high number 
     able = keyed.able;
   }
 
-  pub tidied-keyed : (count : ℕ) (host : Host S) → Keyed count host → Keyed count (tidied host)
-  unfolding tidied
+  pub tidied-keyed : (count : ℕ) (host : Host S) → Keyed count host → Keyed count (without_ended host)
+  unfolding without_ended
   tidied-keyed count host keyed = record {
     clients = keyed-kept Own low number host.last (counter_at form host.sessions) _ host.clients keyed.clients;
     servers = servers-kept number host.last count _ host.servers keyed.servers;
@@ -277,7 +277,7 @@ module _ {S : Type 0} (form : Form S) (Own : AppId → Type 0) (low high number 
   pub cancel-keyed : (now : ℕ) (item : ClientItem) (client : Client) (count : ℕ) (host : Host S) → IsIn client host.clients
       → is_cancel_client client ≡ false → (out_of_client client item).cancel ≡ true → Keyed count host
       → Keyed count (with_client (cancelling now client) (pass_client client.app client.branch (is_cancel_client client) item host))
-  unfolding pass_client tidied
+  unfolding pass_client without_ended
   cancel-keyed now item client count host within kind sends keyed = record {
     clients = keyed-cancel Own low number host.last (counter_at form host.sessions) now item _ host.clients client within kind sends keyed.clients;
     servers = servers-kept number host.last count _ host.servers keyed.servers;

@@ -25,7 +25,7 @@ use Rattle.sc_hosts.specs.Messages.{ack_of, cancel_of}
 use Rattle.sc_hosts.specs.Sessions.{Form}
 use Rattle.sc_hosts.specs.Taking.{take_cancel as cancelled, last_again, again_if, take_repeated as repeated, refuse, with_server, with_trying, queue_later, begun_live, take_new as begun, take_initial, takes}
 use Rattle.sc_hosts.specs.TakingResponses.{take_provisional as told, told_by, cancelling, with_reply, response_for, response_to, take_response}
-use Rattle.sc_hosts.specs.Transacting.{tidied, pass_client, with_client, pass_server}
+use Rattle.sc_hosts.specs.Transacting.{without_ended, pass_client, with_client, pass_server}
 use Rattle.sc_lives.proofs.Serials.{append-rising, change-rising}
 use Rattle.sc_lives.specs.Numbers.{IsNumbered}
 
@@ -42,11 +42,11 @@ module _ {S : Type 0} where
   -- ## Transactions
 
   pub pass_client-numbered : (app : AppId) (branch : ℕ) (cancelling : Bool) (item : ClientItem) (host : Host S) → IsNumbered host → IsNumbered (pass_client app branch cancelling item host)
-  unfolding pass_client tidied
+  unfolding pass_client without_ended
   pass_client-numbered app branch cancelling item host numbered = numbered
 
   pub pass_server-numbered : (event : ℕ) (item : ServerItem) (host : Host S) → IsNumbered host → IsNumbered (pass_server event item host)
-  unfolding pass_server tidied
+  unfolding pass_server without_ended
   pass_server-numbered event item host numbered = numbered
 
   -- ## Events of sessions

@@ -30,7 +30,7 @@ use Rattle.sc_tokens.specs.Bytes.{Bytes}
 use Rattle.sc_hosts.specs.Nets.{host_at, change_host, with_message as put, put_reply, with_host_after as placed, queued_at, queue_for, tell_own, send_to, leave_for, leave, begin_by, send_named, send_later, acknowledge, send_cancel, cancel_by, cancel_for, respond_by, obey, after_orders as obeyed, is_busy, deliver_at, deliver_entry, deliver_first, weight}
 use Rattle.sc_hosts.specs.Runs.{after_delivery as delivered}
 use Rattle.sc_hosts.specs.Sessions.{Form}
-use Rattle.sc_hosts.specs.Transacting.{tidied, pass_client}
+use Rattle.sc_hosts.specs.Transacting.{without_ended, pass_client}
 use Rattle.sc_lives.proofs.NumberedHosts.{pass_client-numbered, queue-numbered, takes-numbered}
 use Rattle.sc_lives.proofs.Settling.{change_nth-holds, settle-holds}
 use Rattle.sc_lives.specs.Numbers.{IsNumbered, AreNumbered, IsNumberedAt}
@@ -149,7 +149,7 @@ module _ {S : Type 0} where
   cancel_for-numbered app branch at_once (Some client) net numbered = if-net _ _ _ (cancel_by-numbered app branch client net numbered) numbered
 
   respond_by-numbered : (number event : ℕ) (response : Response) (server : Option Server) (net : Net S) → AreNumbered net → AreNumbered (respond_by number event response server net)
-  unfolding respond_by tidied
+  unfolding respond_by without_ended
   respond_by-numbered number event response None net numbered = numbered
   respond_by-numbered number event response (Some server) net numbered =
       if-net _ _ _ (put-numbered number server.peer _ None _ (change_host-numbered number _ net (λ host whole. whole) numbered)) numbered

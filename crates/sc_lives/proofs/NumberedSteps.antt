@@ -39,7 +39,7 @@ use Rattle.sc_hosts.specs.Routes.{unrouted_initial, popped_route}
 use Rattle.sc_hosts.specs.Sessions.{Form, Turn}
 use Rattle.sc_hosts.specs.Steps.{turned_live, without_live, with_ready, without_application as invalidated, closed_turn, net_after_turn as turned, turns_first, turns, withdrawn, before_delivery as stepped}
 use Rattle.sc_hosts.specs.Ticks.{told_at, passes, clients_to, net_after_loss as lost, DueItem, Of_session, Of_client, Of_server, mark_fired, fires, due_items, net_after_tick as ticked}
-use Rattle.sc_hosts.specs.Transacting.{method_of, tidied}
+use Rattle.sc_hosts.specs.Transacting.{method_of, without_ended}
 use Rattle.sc_hosts.specs.Words.{unavailable}
 use Rattle.sc_lives.proofs.NumberedHosts.{pass_server-numbered, takes-numbered}
 use Rattle.sc_lives.proofs.NumberedNets.{if-net, fold-numbered, change_host-numbered, host_at-numbered, put-numbered, placed-numbered, queue_for-numbered, passed-numbered, obeyed-numbered}
@@ -131,7 +131,7 @@ module _ {S : Type 0} where
   -- ## A session takes a turn, or is withdrawn
 
   without_live-numbered : (app : AppId) (net : Net S) → AreNumbered net → AreNumbered (without_live app net)
-  unfolding without_live tidied
+  unfolding without_live without_ended
   without_live-numbered app net numbered =
       change_host-numbered app.host _ net (λ host whole. remove-rising host.sessions 0 host.last (is_live app.serial) whole) numbered
 

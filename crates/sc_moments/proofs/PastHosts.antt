@@ -14,7 +14,7 @@ use Rattle.sc_state.specs.declared.queue.Queued.{Queued}
 use Rattle.sc_hosts.specs.Inboxes.{is_live, with_event, without_answer as quiet, queue}
 use Rattle.sc_hosts.specs.Runs.{quiet_host}
 use Rattle.sc_hosts.specs.Steps.{live_of}
-use Rattle.sc_hosts.specs.Transacting.{tidied, pass_client, pass_server}
+use Rattle.sc_hosts.specs.Transacting.{without_ended, pass_client, pass_server}
 
 -- the first events of these sessions have been first since a moment that is not after this one
 unfoldable pub LivesPast : {S : Type 0} → ℕ → List (Live S) → Type 0
@@ -119,16 +119,16 @@ module _ {S : Type 0} (most : ℕ) where
 
   -- ## What a host makes of its transactions leaves its sessions
 
-  pub tidied-past : (host : Host S) → HostPast most host → HostPast most (tidied host)
-  unfolding tidied HostPast
+  pub tidied-past : (host : Host S) → HostPast most host → HostPast most (without_ended host)
+  unfolding without_ended HostPast
   tidied-past host past = past
 
   pub pass_client-past : (app : AppId) (branch : ℕ) (cancelling : Bool) (item : ClientItem) (host : Host S) → HostPast most host → HostPast most (pass_client app branch cancelling item host)
-  unfolding pass_client tidied HostPast
+  unfolding pass_client without_ended HostPast
   pass_client-past app branch cancelling item host past = past
 
   pub pass_server-past : (event : ℕ) (item : ServerItem) (host : Host S) → HostPast most host → HostPast most (pass_server event item host)
-  unfolding pass_server tidied HostPast
+  unfolding pass_server without_ended HostPast
   pass_server-past event item host past = past
 
   -- ## Events of sessions

@@ -19,7 +19,7 @@ use Rattle.sc_hosts.specs.Inboxes.{is_live}
 use Rattle.sc_hosts.specs.Nets.{change_host}
 use Rattle.sc_hosts.specs.Sessions.{Form, Turn}
 use Rattle.sc_hosts.specs.Steps.{turned_live, without_live, without_application as invalidated, closed_turn, net_after_turn as turned, turns_first, turns, withdrawn}
-use Rattle.sc_hosts.specs.Transacting.{is_same_app, tidied}
+use Rattle.sc_hosts.specs.Transacting.{is_same_app, without_ended}
 use Rattle.sc_once.proofs.Finding.{find-other, find-without}
 use Rattle.sc_walks.specs.Walks.{HostLaws, NetLaws}
 use Rattle.sc_walks.proofs.WalkNets.{change_host-walks, obeyed-walks}
@@ -55,7 +55,7 @@ module _ {S : Type 0} {Begins : Form S → Type 0} (H : ℕ → ℕ → ℕ → 
       unmoved other.host net.moment net.count host _ same refl)
 
   without_live-walks : (net : Net S) → P net (without_live other net)
-  unfolding without_live tidied
+  unfolding without_live without_ended
   without_live-walks net =
       there _ net (λ at host.
       let same = find-without host.sessions (is_live other.serial) (is_live app.serial) (λ live is. apart app.serial other.serial live.serial at is) in

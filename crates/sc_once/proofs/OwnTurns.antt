@@ -17,7 +17,7 @@ use Rattle.sc_hosts.specs.Inboxes.{is_live, live_in}
 use Rattle.sc_hosts.specs.Nets.{host_at, change_host}
 use Rattle.sc_hosts.specs.Sessions.{Form, Turn}
 use Rattle.sc_hosts.specs.Steps.{live_of, live_at, turned_live, without_live}
-use Rattle.sc_hosts.specs.Transacting.{tidied}
+use Rattle.sc_hosts.specs.Transacting.{without_ended}
 use Rattle.sc_lives.specs.Numbers.{IsRising, AreNumbered, IsNumberedAt}
 use Rattle.sc_lives.proofs.NumberedNets.{host_at-numbered}
 use Rattle.sc_once.proofs.Finding.{find-changed}
@@ -110,8 +110,8 @@ module _ {S : Type 0} (app : AppId) where
   -- ## The end
 
   without-in : (host : Option (Host S)) → IsNumberedAt host → KnownIn app.serial host
-      → GoneIn app.serial (option_map {T = Host S} {U = Host S} (λ host. tidied (record host { sessions = remove_first (is_live app.serial) host.sessions })) host)
-  unfolding GoneIn KnownIn tidied
+      → GoneIn app.serial (option_map {T = Host S} {U = Host S} (λ host. without_ended (record host { sessions = remove_first (is_live app.serial) host.sessions })) host)
+  unfolding GoneIn KnownIn without_ended
   without-in None numbered k = tt
   without-in (Some host) numbered k = (k, without-found host.sessions 0 host.last app.serial numbered)
 

@@ -44,7 +44,7 @@ use Rattle.sc_hosts.specs.Steps.{closed_turn, without_application as invalidated
 use Rattle.sc_hosts.specs.Taking.{take_cancel as cancelled, last_again, again_if, take_repeated as repeated, refuse, server_after_trying as tried, without_own_route as unrouted, with_server, with_trying, queue_later, take_new as begun, take_initial, takes}
 use Rattle.sc_hosts.specs.TakingResponses.{cancelling, take_provisional as told, told_by, with_reply, response_for, response_to, take_response}
 use Rattle.sc_hosts.specs.Words.{does_not_exist, unavailable}
-use Rattle.sc_hosts.specs.Transacting.{client_for, has_final, is_server, pass_client, pass_server, same_top, server_passed, tidied, with_client}
+use Rattle.sc_hosts.specs.Transacting.{client_for, has_final, is_server, pass_client, pass_server, same_top, server_passed, without_ended, with_client}
 use Rattle.sc_lasting.specs.Lasting.{All}
 use Rattle.sc_lasting.proofs.Parts.{all-append, all-filter, all-first}
 use Rattle.sc_once.proofs.ChangedHosts.{changed_hosts}
@@ -84,11 +84,11 @@ module _ {S : Type 0} (sent : Request) where
   queue-clean serial now event count host ok = if-clean _ _ (quiet host count) ok ok
 
   pass_client-clean : (of : AppId) (branch : ℕ) (cancelling : Bool) (item : ClientItem) (host : Host S) → Clean host → Clean (pass_client of branch cancelling item host)
-  unfolding pass_client tidied
+  unfolding pass_client without_ended
   pass_client-clean of branch cancelling item host ok = all-filter (Free sent) _ host.servers ok
 
   pass_server-clean : (event : ℕ) (item : ServerItem) (host : Host S) → Clean host → Clean (pass_server event item host)
-  unfolding pass_server server_passed tidied
+  unfolding pass_server server_passed without_ended
   pass_server-clean event item host ok = all-filter (Free sent) _ _ (all-first (Free sent) (is_server event) (server_passed item) host.servers (λ server found free. free) ok)
 
   -- ## What a host takes
@@ -305,7 +305,7 @@ module _ {S : Type 0} (sent : Request) where
   cancel_for-goes of branch at_once (Some client) net = if-goes _ net _ net (cancel_by-goes of branch client net) (still net net refl refl)
 
   respond-goes : (number event : ℕ) (response : Response) (server : Option Server) (net : Net S) → Goes net (respond_by number event response server net)
-  unfolding respond_by answered_server tidied
+  unfolding respond_by answered_server without_ended
   respond-goes number event response None net = still net net refl refl
   respond-goes number event response (Some server) net =
       if-goes _ net _ net
@@ -328,7 +328,7 @@ module _ {S : Type 0} (sent : Request) where
   obeyed-goes (order ∷ given) setup of net = then-goes net (obey setup of net order) _ (obey-goes setup of net order) (obeyed-goes given setup of (obey setup of net order))
 
   without-goes : (of : AppId) (net : Net S) → Goes net (without_live of net)
-  unfolding without_live tidied
+  unfolding without_live without_ended
   without-goes of net = change-goes of.host _ net (λ host ok. all-filter (Free sent) _ host.servers ok)
 
   invalidated-goes : (setup : Setup) (of : AppId) (session : Session) (inbox : List Waiting) (net : Net S) → Goes net (invalidated setup of session inbox net)

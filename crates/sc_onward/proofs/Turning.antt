@@ -39,7 +39,7 @@ use Rattle.sc_hosts.specs.Runs.{after_step, after_delivery as delivered}
 use Rattle.sc_hosts.specs.Sessions.{Turn}
 use Rattle.sc_hosts.specs.Steps.{closed_turn, inbox_of, without_application as invalidated, live_at, outcome_by, before_delivery as stepped, turn_of, net_after_turn as turned, turned_live, turns, turns_first, with_ready, without_live}
 use Rattle.sc_hosts.specs.Taking.{names, named_live, own_uri}
-use Rattle.sc_hosts.specs.Transacting.{method_of, tidied}
+use Rattle.sc_hosts.specs.Transacting.{method_of, without_ended}
 use Rattle.sc_lasting.specs.Lasting.{All}
 use Rattle.sc_lives.specs.Numbers.{AreNumbered}
 use Rattle.sc_lives.proofs.HostCounts.{change_host-hosts, if-hosts, obeyed-hosts, queue_for-hosts}
@@ -219,11 +219,11 @@ module _ (to : AppId) where
   obeyed-counts setup app given net = obeyed-walks (λ number now. CountGrows {S = Session} to.serial) (NetCounts to) (count-hosts to.serial) (count-nets to) setup app given net
 
   without-keeps : (app : AppId) (net : Net Session) → GoneIn to.serial (host_at to.host net) → GoneIn to.serial (host_at to.host (without_live app net))
-  unfolding without_live tidied
+  unfolding without_live without_ended
   without-keeps app net gone = change-gone app.host _ net (λ host. refl) (λ host none. none-removed host.sessions to.serial app.serial none) gone
 
   without-known : (app : AppId) (net : Net Session) → KnownIn to.serial (host_at to.host net) → KnownIn to.serial (host_at to.host (without_live app net))
-  unfolding without_live tidied
+  unfolding without_live without_ended
   without-known app net known = change-known app.host _ net (λ host. refl) known
 
   -- a turn that closes brings none back, and forgets none
@@ -244,7 +244,7 @@ module _ (to : AppId) where
       (with_ready-walks (λ number now. CountGrows {S = Session} to.serial) (NetCounts to) (count-hosts to.serial) (count-nets to) app done (live_at app net) net).known known
 
   pub closed-numbered : (setup : Setup) (app : AppId) (done : Outcome) (ends : Bool) (net : Net Session) → AreNumbered net → AreNumbered (closed_turn setup app done ends net)
-  unfolding closed_turn invalidated without_live tidied with_ready
+  unfolding closed_turn invalidated without_live without_ended with_ready
   closed-numbered setup app done true net numbered =
       change_host-numbered app.host _ (obeyed setup app (goodbye setup.config done.session (inbox_of (live_at app net))) net) (λ host rising. remove-rising host.sessions 0 host.last (is_live app.serial) rising)
       (obeyed-numbered setup app (goodbye setup.config done.session (inbox_of (live_at app net))) net numbered)

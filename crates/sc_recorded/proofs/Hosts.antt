@@ -35,7 +35,7 @@ use Rattle.sc_hosts.specs.Nets.{with_routes}
 use Rattle.sc_hosts.specs.Sessions.{Form, Turn}
 use Rattle.sc_hosts.specs.Taking.{take_cancel as cancelled, last_again, again_if, take_repeated as repeated, begun_live, refuse, server_after_trying as tried, without_own_route as unrouted, with_server, with_trying, queue_later, take_new as begun, take_initial, takes}
 use Rattle.sc_hosts.specs.TakingResponses.{cancelling, take_provisional as told, told_by, with_reply, response_for, response_to, take_response}
-use Rattle.sc_hosts.specs.Transacting.{client_for, client_passed, has_final, is_answered_by, is_same_app, is_server, pass_client, pass_server, server_passed, tidied}
+use Rattle.sc_hosts.specs.Transacting.{client_for, client_passed, has_final, is_answered_by, is_same_app, is_server, pass_client, pass_server, server_passed, without_ended}
 use Rattle.sc_lasting.specs.Lasting.{All}
 use Rattle.sc_lasting.proofs.Parts.{all-append, all-filter, all-first, all-found, all-map}
 use Rattle.sc_keyed.proofs.ClientKeys.{app-is}
@@ -178,7 +178,7 @@ module _ {S : Type 0} (form : Form S) (app : AppId) (request_of : S → Request)
 
     pub pass_client-good : (known : Option Request) (of : AppId) (branch : ℕ) (cancelling : Bool) (item : ClientItem) (host : Host S) → Good known number host
         → Good known number (pass_client of branch cancelling item host)
-    unfolding pass_client client_passed tidied
+    unfolding pass_client client_passed without_ended
     pass_client-good known of branch cancelling item host good = record {
       sessions = good.sessions;
       servers = all-filter (IsServed known) _ host.servers good.servers;
@@ -187,7 +187,7 @@ module _ {S : Type 0} (form : Form S) (app : AppId) (request_of : S → Request)
     }
 
     pub pass_server-good : (known : Option Request) (event : ℕ) (item : ServerItem) (host : Host S) → Good known number host → Good known number (pass_server event item host)
-    unfolding pass_server server_passed tidied
+    unfolding pass_server server_passed without_ended
     pass_server-good known event item host good = record {
       sessions = good.sessions;
       servers = all-filter (IsServed known) _ _ (all-first (IsServed known) (is_server event) (server_passed item) host.servers (λ server found ok. ok) good.servers);

@@ -36,7 +36,7 @@ use Rattle.sc_hosts.specs.Runs.{after_delivery as delivered}
 use Rattle.sc_hosts.specs.Sessions.{Form}
 use Rattle.sc_hosts.specs.Settle.{steps, settle}
 use Rattle.sc_hosts.specs.TakingResponses.{cancelling}
-use Rattle.sc_hosts.specs.Transacting.{is_client, is_server, tidied, pass_client, with_client}
+use Rattle.sc_hosts.specs.Transacting.{is_client, is_server, without_ended, pass_client, with_client}
 use Rattle.sc_lasting.specs.Lasting.{All}
 use Rattle.sc_lasting.proofs.Parts.{all-append, all-filter, all-first, all-found, all-map}
 use Rattle.sc_lasting.proofs.Shared.{all-rest, all-at}
@@ -282,7 +282,7 @@ module _ {S : Type 0} (form : Form S) (app : AppId) (request_of : S → Request)
 
   respond_by-holds : (known : Option Request) (number event : ℕ) (response : Response) (server : Option Server) (net : Net S) → Holds known net
       → Holds known (respond_by number event response server net)
-  unfolding respond_by answered_server tidied
+  unfolding respond_by answered_server without_ended
   respond_by-holds known number event response None net holds = holds
   respond_by-holds known number event response (Some server) net holds =
       if-holds known _ _ net

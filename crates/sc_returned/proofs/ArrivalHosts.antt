@@ -37,7 +37,7 @@ use Rattle.sc_hosts.specs.Messages.{trying_response}
 use Rattle.sc_hosts.specs.Sessions.{Form, Turn}
 use Rattle.sc_hosts.specs.Taking.{take_cancel as cancelled, last_again, again_if, take_repeated as repeated, begun_live, is_named_live, named_live, own_uri, refuse, server_after_trying as tried, without_own_route as unrouted, with_server, with_trying, queue_later, take_new as begun, take_initial, takes}
 use Rattle.sc_hosts.specs.TakingResponses.{take_provisional as told, told_by, with_reply, response_for, response_to, take_response}
-use Rattle.sc_hosts.specs.Transacting.{client_for, client_passed, has_final, is_server, method_of, pass_client, pass_server, server_passed, tidied}
+use Rattle.sc_hosts.specs.Transacting.{client_for, client_passed, has_final, is_server, method_of, pass_client, pass_server, server_passed, without_ended}
 use Rattle.sc_hosts.specs.Words.{trying}
 use Rattle.sc_lasting.specs.Lasting.{All}
 use Rattle.sc_lasting.proofs.Began.{same-number, test-found}
@@ -222,11 +222,11 @@ module _ {S : Type 0} (form : Form S) (Lives : List Arrival → AppId → S → 
 
     pub pass_client-good : (arrivals : List Arrival) (of : AppId) (branch : ℕ) (cancelling : Bool) (item : ClientItem) (host : Host S) → HostIn arrivals number host
         → HostIn arrivals number (pass_client of branch cancelling item host)
-    unfolding pass_client client_passed tidied
+    unfolding pass_client client_passed without_ended
     pass_client-good arrivals of branch cancelling item host good = record { sessions = good.sessions; servers = all-filter (ServerIn arrivals) _ host.servers good.servers }
 
     pub pass_server-good : (arrivals : List Arrival) (event : ℕ) (item : ServerItem) (host : Host S) → HostIn arrivals number host → HostIn arrivals number (pass_server event item host)
-    unfolding pass_server server_passed tidied
+    unfolding pass_server server_passed without_ended
     pass_server-good arrivals event item host good = record {
       sessions = good.sessions;
       servers = all-filter (ServerIn arrivals) _ _ (all-first (ServerIn arrivals) (is_server event) (server_passed item) host.servers (λ server found ok. ok) good.servers);

@@ -32,7 +32,7 @@ use Rattle.sc_hosts.specs.Nets.{host_at, change_host, with_message as put, put_r
 use Rattle.sc_hosts.specs.Runs.{after_delivery as delivered}
 use Rattle.sc_hosts.specs.Sessions.{Form}
 use Rattle.sc_hosts.specs.Settle.{steps, settle}
-use Rattle.sc_hosts.specs.Transacting.{is_server, tidied, pass_client, with_client}
+use Rattle.sc_hosts.specs.Transacting.{is_server, without_ended, pass_client, with_client}
 use Rattle.sc_lasting.specs.Lasting.{All}
 use Rattle.sc_lasting.proofs.Parts.{all-append, all-filter, all-first, all-map}
 use Rattle.sc_keyed.specs.Keyed.{IsIn}
@@ -271,7 +271,7 @@ module _ {S : Type 0} (form : Form S) (Lives : List Arrival → AppId → S → 
 
   respond_by-holds : (arrivals : List Arrival) (number event : ℕ) (response : Response) (server : Option Server) (net : Net S) → Holds arrivals net
       → Holds arrivals (respond_by number event response server net)
-  unfolding respond_by answered_server tidied
+  unfolding respond_by answered_server without_ended
   respond_by-holds arrivals number event response None net holds = holds
   respond_by-holds arrivals number event response (Some server) net holds =
       if-holds arrivals _ _ net

@@ -45,7 +45,7 @@ use Rattle.sc_hosts.specs.Runs.{after_step}
 use Rattle.sc_hosts.specs.Sessions.{Form, Turn}
 use Rattle.sc_hosts.specs.Steps.{closed_turn, without_application as invalidated, live_at, before_delivery as stepped, turn_of, net_after_turn as turned, turned_live, turns, turns_first, with_ready, withdrawn, without_live}
 use Rattle.sc_hosts.specs.Ticks.{told_at, passes, clients_to, net_after_loss as lost, Dated, DueItem, Of_session, Of_client, Of_server, mark_fired, fires, due_items, net_after_tick as ticked}
-use Rattle.sc_hosts.specs.Transacting.{tidied}
+use Rattle.sc_hosts.specs.Transacting.{without_ended}
 use Rattle.sc_hosts.specs.Words.{unavailable}
 use Rattle.sc_lasting.specs.Lasting.{All}
 use Rattle.sc_lasting.proofs.Began.{same-number, test-found}
@@ -191,7 +191,7 @@ module _ {S : Type 0} (form : Form S) (Lives : List Arrival → AppId → S → 
   -- ## Turns
 
   without_live-kept : (arrivals : List Arrival) (of : AppId) (net : Net S) → Keeps arrivals net → Keeps arrivals (without_live of net)
-  unfolding without_live tidied
+  unfolding without_live without_ended
   without_live-kept arrivals of net holds =
       change-kept arrivals of.host _ net
       (λ host good. record {

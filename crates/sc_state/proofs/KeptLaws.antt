@@ -11,7 +11,7 @@ use Rattle.sc_state.specs.declared.host.Server.{Server}
 use Rattle.sc_stages.specs.States.{is_over}
 use Rattle.sc_state.specs.Groups.{branch_number, groups_of_client, groups_of_server}
 use Rattle.sc_state.specs.Hosts.{Host}
-use Rattle.sc_state.specs.Keeping.{is_live, lives_here, is_kept_client, is_kept_server, without_ended as tidied, lives_among, kept_client, kept_server, AllKept, is_same_client}
+use Rattle.sc_state.specs.Keeping.{is_live, lives_here, is_kept_client, is_kept_server, without_ended as without_ended, lives_among, kept_client, kept_server, AllKept, is_same_client}
 use Rattle.sc_state.specs.Standing.{is_client, is_same_app, is_server, is_invite_client, is_invite_server, state_of_client, state_of_server}
 use Rattle.sc_state.proofs.AllLaws.{found_any, filter_all, all_filter, all_pushed, all_weaker, all_changed, kept_without, kept_outside, any_pushed}
 
@@ -126,8 +126,8 @@ left_servers serial sessions olds news all is = is ∙ sym (kept_outside (λ ser
 
 -- both lists hold what is kept
 pub tidied_is : {S : Type 0} (host : Host S) (clients : List Client) (servers : List Server) → clients ≡ filter (kept_client host.sessions) host.clients → servers ≡ filter (kept_server host.sessions) host.servers
-    → record host { clients = clients; servers = servers } ≡ tidied host
-unfolding tidied is_kept_client is_kept_server lives_here
+    → record host { clients = clients; servers = servers } ≡ without_ended host
+unfolding without_ended is_kept_client is_kept_server lives_here
 tidied_is host clients servers one two =
     ap (λ l. record host { clients = l; servers = servers }) one ∙ ap (λ l. record host { clients = filter (kept_client host.sessions) host.clients; servers = l }) two
 

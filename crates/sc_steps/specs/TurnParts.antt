@@ -25,7 +25,7 @@ use Rattle.sc_hosts.specs.Preparing.{prepared_session}
 use Rattle.sc_hosts.specs.Sessions.{entries_of}
 use Rattle.sc_hosts.specs.Steps.{inbox_of, live_at, outcome_by, still_fired, turn_of, without_application}
 use Rattle.sc_hosts.specs.Inboxes.{is_live}
-use Rattle.sc_hosts.specs.Transacting.{tidied}
+use Rattle.sc_hosts.specs.Transacting.{without_ended}
 
 -- ## The live session
 
@@ -57,7 +57,7 @@ net_after app session net = change_host app.host (host_after app.serial net.mome
 -- the host without it
 unfoldable pub host_without : ℕ → Host Session → Host Session
 host_without serial host =
-    tidied (record host { sessions = remove_first (is_live serial) host.sessions })
+    without_ended (record host { sessions = remove_first (is_live serial) host.sessions })
 
 -- ## How a turn closes
 

@@ -24,7 +24,7 @@ use Rattle.sc_model.specs.Transactions.{is_reached}
 use Rattle.sc_hosts.specs.Inboxes.{without_answer as quiet, queue}
 use Rattle.sc_hosts.specs.Nets.{host_at, with_host_after as placed, put_reply, queue_for, queued_at}
 use Rattle.sc_hosts.specs.Ticks.{Dated, DueItem, Of_client, Of_server, Of_session, fires, mark_fired, passes, told_at}
-use Rattle.sc_hosts.specs.Transacting.{client_passed, due_of_client, due_of_server, out_of_client, pass_client, pass_server, server_passed, tidied}
+use Rattle.sc_hosts.specs.Transacting.{client_passed, due_of_client, due_of_server, out_of_client, pass_client, pass_server, server_passed, without_ended}
 use Rattle.sc_hosts.specs.Words.{request_timeout}
 use Rattle.sc_once.proofs.Finding.{slice_get-other}
 use Rattle.sc_keyed.specs.Keyed.{HasOwnKeys, IsIn, is_same_server}
@@ -132,7 +132,7 @@ module _ {S : Type 0} (now : ℕ) where
 
   client-keys : (number : ℕ) (app : AppId) (branch : ℕ) (cancelling : Bool) (item : ClientItem) (host : Host S) → HasOwnKeys number host
       → HasOwnKeys number (pass_client app branch cancelling item host)
-  unfolding pass_client tidied client_passed is_client
+  unfolding pass_client without_ended client_passed is_client
   client-keys number app branch cancelling item host own = record {
     clients_here = λ client within. here client (in-changed is_same_client (is_client app branch cancelling) (client_passed item) host.clients client (same-test app branch cancelling) own.clients_apart
         (in-filter _ (change_first (is_client app branch cancelling) (client_passed item) host.clients) client within));
@@ -149,7 +149,7 @@ module _ {S : Type 0} (now : ℕ) where
   pub client-passes : (ds : List Dated) (entry : DueEntry) (other : Client) (number : ℕ) (host : Host S)
       → AwaitsItems now (record { entry = entry; item = Of_client other } ∷ ds) number host
       → AwaitsItems now ds number (pass_client other.app other.branch (is_cancel_client other) (client_items.MomentCame now) host)
-  unfolding pass_client tidied is_for_client is_for_server
+  unfolding pass_client without_ended is_for_client is_for_server
   client-passes ds entry other number host waits = record {
     own = client-keys number other.app other.branch (is_cancel_client other) (client_items.MomentCame now) host waits.own;
     clients = λ client within. at client (in-changed is_same_client (is_same_client other) (client_passed (client_items.MomentCame now)) host.clients client (same-test other.app other.branch (is_cancel_client other)) waits.own.clients_apart
@@ -165,7 +165,7 @@ module _ {S : Type 0} (now : ℕ) where
 
   server-keys : (number event : ℕ) (host : Host S) → HasOwnKeys number host
       → HasOwnKeys number (pass_server event (server_items.MomentCame now) host)
-  unfolding pass_server tidied server_passed
+  unfolding pass_server without_ended server_passed
   server-keys number event host own = record {
     clients_here = λ client within. own.clients_here client (in-filter _ host.clients client within);
     servers_here = λ server within. here server (in-changed is_same_server (is_server event) (server_passed (server_items.MomentCame now)) host.servers server (same-event event) own.servers_apart
@@ -183,7 +183,7 @@ module _ {S : Type 0} (now : ℕ) where
   server-passes : (ds : List Dated) (entry : DueEntry) (other : Server) (number : ℕ) (host : Host S)
       → AwaitsItems now (record { entry = entry; item = Of_server other } ∷ ds) number host
       → AwaitsItems now ds number (pass_server other.event (server_items.MomentCame now) host)
-  unfolding pass_server tidied is_for_client is_for_server
+  unfolding pass_server without_ended is_for_client is_for_server
   server-passes ds entry other number host waits = record {
     own = server-keys number other.event host waits.own;
     clients = λ client within due. waits.clients client (in-filter _ host.clients client within) due;

@@ -17,7 +17,7 @@ use Rattle.sc_state.specs.declared.host.Peer.{Peer}
 use Rattle.sc_state.specs.declared.session.Session.{Session}
 use Rattle.sc_state.specs.Hosts.{Host}
 use Rattle.sc_state.specs.Groups.{text_number, branch_number, groups_of_client}
-use Rattle.sc_state.specs.Keeping.{is_same_client, without_ended as tidied}
+use Rattle.sc_state.specs.Keeping.{is_same_client, without_ended as without_ended}
 use Rattle.sc_state.specs.Standing.{is_client, is_same_app, is_cancel_client, is_invite_client}
 use Rattle.sc_hosts.specs.Transacting.{takes_from, is_over, state_of_client, method_of, is_answered_by, client_passed, pass_client, top_via, branch_of}
 use Rattle.sc_transact.specs.Ringing.{is_ringing}
@@ -58,10 +58,10 @@ answered_grouped group salt epoch from response named x is =
 
 -- ## An item passes
 
-pub passed_none : (app : AppId) (branch : ℕ) (cancelling : Bool) (item : ClientItem) (host : Host Session) → None ≡ find (is_client app branch cancelling) host.clients → tidied host ≡ pass_client app branch cancelling item host
+pub passed_none : (app : AppId) (branch : ℕ) (cancelling : Bool) (item : ClientItem) (host : Host Session) → None ≡ find (is_client app branch cancelling) host.clients → without_ended host ≡ pass_client app branch cancelling item host
 unfolding pass_client
 passed_none app branch cancelling item host none =
-    ap (λ l. tidied (record host { clients = l })) (sym (change_absent (is_client app branch cancelling) (client_passed item) host.clients (sym none)))
+    ap (λ l. without_ended (record host { clients = l })) (sym (change_absent (is_client app branch cancelling) (client_passed item) host.clients (sym none)))
 
 -- the name of the one that was found
 and_false : (a : Bool) → (a && false) ≡ false
@@ -102,12 +102,12 @@ named_is app branch cancelling x is =
     ap (λ a. is_client a x.branch (is_cancel_client x)) name.0 ∙ ap (λ n. is_client app n (is_cancel_client x)) name.1 ∙ ap (is_client app branch) (kind_of app branch cancelling x is)
 
 pub passed_found : (app : AppId) (branch : ℕ) (cancelling : Bool) (item : ClientItem) (host : Host Session) (x own : Client) → Some x ≡ find (is_client app branch cancelling) host.clients → own ≡ client_passed item x
-    → tidied (record host { clients = change_first (is_same_client own) (λ _. own) host.clients }) ≡ pass_client app branch cancelling item host
+    → without_ended (record host { clients = change_first (is_same_client own) (λ _. own) host.clients }) ≡ pass_client app branch cancelling item host
 unfolding pass_client client_passed
 passed_found app branch cancelling item host x own found made =
-    ap (λ c. tidied (record host { clients = change_first (is_same_client c) (λ _. c) host.clients })) made
-    ∙ ap (λ p. tidied (record host { clients = change_first p (λ _. client_passed item x) host.clients })) (named_is app branch cancelling x (found_passes (is_client app branch cancelling) x host.clients (sym found)))
-    ∙ ap (λ l. tidied (record host { clients = l })) (change_found (is_client app branch cancelling) (client_passed item) x host.clients (sym found))
+    ap (λ c. without_ended (record host { clients = change_first (is_same_client c) (λ _. c) host.clients })) made
+    ∙ ap (λ p. without_ended (record host { clients = change_first p (λ _. client_passed item x) host.clients })) (named_is app branch cancelling x (found_passes (is_client app branch cancelling) x host.clients (sym found)))
+    ∙ ap (λ l. without_ended (record host { clients = l })) (change_found (is_client app branch cancelling) (client_passed item) x host.clients (sym found))
 
 -- ## What rings
 

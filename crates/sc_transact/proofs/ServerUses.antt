@@ -14,7 +14,7 @@ use Rattle.sc_state.specs.declared.host.Server.{Server}
 use Rattle.sc_state.specs.declared.session.Session.{Session}
 use Rattle.sc_state.specs.Hosts.{Host}
 use Rattle.sc_state.specs.Groups.{text_number, via_number, groups_of_server}
-use Rattle.sc_state.specs.Keeping.{without_ended as tidied}
+use Rattle.sc_state.specs.Keeping.{without_ended as without_ended}
 use Rattle.sc_state.specs.Standing.{is_server, is_invite_server, state_of_server}
 use Rattle.sc_hosts.specs.Transacting.{takes_from, is_over, is_completed, method_of, same_top, same_via, port_of, is_kin, is_cancelled_by, is_acked_by, is_repeated_by, server_passed, pass_server, top_via, branch_of}
 use Rattle.sc_transact.proofs.BranchTexts.{equal_text}
@@ -67,17 +67,17 @@ repeated_grouped from request x is = kin_grouped from request x (left (is_kin fr
 
 -- ## An item passes
 
-pub passed_none : (event : ℕ) (item : ServerItem) (host : Host Session) → None ≡ find (is_server event) host.servers → tidied host ≡ pass_server event item host
+pub passed_none : (event : ℕ) (item : ServerItem) (host : Host Session) → None ≡ find (is_server event) host.servers → without_ended host ≡ pass_server event item host
 unfolding pass_server
-passed_none event item host none = ap (λ l. tidied (record host { servers = l })) (sym (change_absent (is_server event) (server_passed item) host.servers (sym none)))
+passed_none event item host none = ap (λ l. without_ended (record host { servers = l })) (sym (change_absent (is_server event) (server_passed item) host.servers (sym none)))
 
 pub passed_found : (event : ℕ) (item : ServerItem) (host : Host Session) (x own : Server) → Some x ≡ find (is_server event) host.servers → own ≡ server_passed item x
-    → tidied (record host { servers = change_first (is_server own.event) (λ _. own) host.servers }) ≡ pass_server event item host
+    → without_ended (record host { servers = change_first (is_server own.event) (λ _. own) host.servers }) ≡ pass_server event item host
 unfolding pass_server server_passed
 passed_found event item host x own found made =
-    ap (λ s. tidied (record host { servers = change_first (is_server s.event) (λ _. s) host.servers })) made
-    ∙ ap (λ n. tidied (record host { servers = change_first (is_server n) (λ _. server_passed item x) host.servers })) (same_number x.event event (found_passes (is_server event) x host.servers (sym found)))
-    ∙ ap (λ l. tidied (record host { servers = l })) (change_found (is_server event) (server_passed item) x host.servers (sym found))
+    ap (λ s. without_ended (record host { servers = change_first (is_server s.event) (λ _. s) host.servers })) made
+    ∙ ap (λ n. without_ended (record host { servers = change_first (is_server n) (λ _. server_passed item x) host.servers })) (same_number x.event event (found_passes (is_server event) x host.servers (sym found)))
+    ∙ ap (λ l. without_ended (record host { servers = l })) (change_found (is_server event) (server_passed item) x host.servers (sym found))
 
 -- no request was taken before by a host without server transactions
 pub none_repeated : (from : Peer) (request : Request) (servers : List Server) → length servers ≡ 0 → find (is_repeated_by from request) servers ≡ None

@@ -28,7 +28,7 @@ use Rattle.sc_hosts.specs.Nets.{with_routes}
 use Rattle.sc_hosts.specs.Sessions.{Form, Turn}
 use Rattle.sc_hosts.specs.Taking.{take_cancel as cancelled, last_again, again_if, take_repeated as repeated, begun_live, refuse, with_server, with_trying, queue_later, take_new as begun, take_initial, takes}
 use Rattle.sc_hosts.specs.TakingResponses.{cancelling, take_provisional as told, told_by, with_reply, response_for, response_to, take_response}
-use Rattle.sc_hosts.specs.Transacting.{client_for, client_passed, is_answered_by, tidied, pass_client, pass_server}
+use Rattle.sc_hosts.specs.Transacting.{client_for, client_passed, is_answered_by, without_ended, pass_client, pass_server}
 use Rattle.sc_lasting.specs.Lasting.{All}
 use Rattle.sc_lasting.proofs.Parts.{all-append, all-filter, all-first, all-found}
 
@@ -75,12 +75,12 @@ module _ {S : Type 0} (form : Form S) (epoch : ℕ) (Named : AppId → S → Typ
 
   pub pass_client-good : (app : AppId) (branch : ℕ) (cancelling : Bool) (item : ClientItem) (host : Host S) → Good host
       → Good (pass_client app branch cancelling item host)
-  unfolding pass_client client_passed tidied
+  unfolding pass_client client_passed without_ended
   pass_client-good app branch cancelling item host good =
       (good.0, all-filter IsFit _ _ (all-first IsFit _ (client_passed item) host.clients (λ client found fits. fits) good.1))
 
   pub pass_server-good : (event : ℕ) (item : ServerItem) (host : Host S) → Good host → Good (pass_server event item host)
-  unfolding pass_server tidied
+  unfolding pass_server without_ended
   pass_server-good event item host good = (good.0, all-filter IsFit _ host.clients good.1)
 
   -- ## Responses

@@ -33,7 +33,7 @@ use Rattle.sc_hosts.specs.Sessions.{Form}
 use Rattle.sc_hosts.specs.Settle.{steps, settle}
 use Rattle.sc_hosts.specs.Taking.{takes}
 use Rattle.sc_hosts.specs.TakingResponses.{cancelling}
-use Rattle.sc_hosts.specs.Transacting.{is_client, tidied, pass_client, with_client}
+use Rattle.sc_hosts.specs.Transacting.{is_client, without_ended, pass_client, with_client}
 use Rattle.sc_lasting.specs.Lasting.{All}
 use Rattle.sc_lasting.proofs.Parts.{all-append, all-filter, all-found}
 use Rattle.sc_once.proofs.ChangedHosts.{changed_hosts}
@@ -174,7 +174,7 @@ module _ {S : Type 0} (form : Form S) (epoch : ℕ) (Named : AppId → S → Typ
 
   respond_by-holds : (number event : ℕ) (response : Response) (server : Option Server) (net : Net S) → Holds net
       → Holds (respond_by number event response server net)
-  unfolding respond_by tidied
+  unfolding respond_by without_ended
   respond_by-holds number event response None net holds = holds
   respond_by-holds number event response (Some server) net holds =
       if-holds _ _ net (put-holds number server.peer _ None _ (changes number _ net (λ host at good. (good.0, all-filter IsFit _ host.clients good.1)) holds)) holds

@@ -46,7 +46,7 @@ use Rattle.sc_hosts.specs.Sessions.{Form, Turn}
 use Rattle.sc_hosts.specs.Steps.{closed_turn, without_application as invalidated, live_at, outcome_by, before_delivery as stepped, turn_of, net_after_turn as turned, turned_live, turns, turns_first, with_ready, withdrawn, without_live}
 use Rattle.sc_hosts.specs.Taking.{takes}
 use Rattle.sc_hosts.specs.Ticks.{told_at, passes, clients_to, net_after_loss as lost, Dated, DueItem, Of_session, Of_client, Of_server, mark_fired, fires, due_items, net_after_tick as ticked}
-use Rattle.sc_hosts.specs.Transacting.{tidied}
+use Rattle.sc_hosts.specs.Transacting.{without_ended}
 use Rattle.sc_hosts.specs.Words.{unavailable}
 use Rattle.sc_lasting.specs.Lasting.{All}
 use Rattle.sc_lasting.proofs.Parts.{all-filter, all-first, all-removed}
@@ -171,7 +171,7 @@ module _ {S : Type 0} (form : Form S) (epoch : ℕ) (Named : AppId → S → Typ
   -- ## Turns
 
   without_live-kept : (app : AppId) (net : Net S) → Kept net → Kept (without_live app net)
-  unfolding without_live tidied
+  unfolding without_live without_ended
   without_live-kept app net kept =
       change-kept app.host _ net
       (λ host good. (all-removed (IsNamed form epoch Named Fits kinds app.host) (is_live app.serial) host.sessions good.0, all-filter (λ (client : Client). Fits client.app client.branch client.request) _ host.clients good.1)) kept

@@ -23,7 +23,7 @@ use Rattle.sc_hosts.specs.Inboxes.{without_answer as quiet}
 use Rattle.sc_hosts.specs.Sessions.{Form}
 use Rattle.sc_hosts.specs.Taking.{take_cancel as cancelled, last_again, again_if, take_repeated as repeated, refuse, with_server, with_trying, queue_later, take_new as begun, take_initial, takes}
 use Rattle.sc_hosts.specs.TakingResponses.{take_provisional as told, told_by, with_reply, response_for, response_to, take_response}
-use Rattle.sc_hosts.specs.Transacting.{tidied, pass_client, pass_server}
+use Rattle.sc_hosts.specs.Transacting.{without_ended, pass_client, pass_server}
 use Rattle.sc_walks.specs.Walks.{HostLaws, IsLate}
 
 module _ {S : Type 0} {Begins : Form S → Type 0} (number now : ℕ) (H : ℕ → Host S → ℕ → Host S → Type 0) (law : HostLaws Begins number now H) where
@@ -42,11 +42,11 @@ module _ {S : Type 0} {Begins : Form S → Type 0} (number now : ℕ) (H : ℕ �
   -- ## Transactions
 
   pub pass_client-walks : (app : AppId) (branch : ℕ) (cancelling : Bool) (item : ClientItem) (count : ℕ) (host : Host S) → H count host count (pass_client app branch cancelling item host)
-  unfolding pass_client tidied
+  unfolding pass_client without_ended
   pass_client-walks app branch cancelling item count host = law.passes count host _ _
 
   pub pass_server-walks : (event : ℕ) (item : ServerItem) (count : ℕ) (host : Host S) → H count host count (pass_server event item host)
-  unfolding pass_server tidied
+  unfolding pass_server without_ended
   pass_server-walks event item count host = law.passes count host _ _
 
   -- ## Responses

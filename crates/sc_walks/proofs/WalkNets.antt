@@ -32,7 +32,7 @@ use Rattle.sc_hosts.specs.Nets.{host_at, change_host, with_message as put, put_r
 use Rattle.sc_hosts.specs.Runs.{after_delivery as delivered}
 use Rattle.sc_hosts.specs.Sessions.{Form}
 use Rattle.sc_hosts.specs.Settle.{steps, settle}
-use Rattle.sc_hosts.specs.Transacting.{tidied, pass_client, with_client}
+use Rattle.sc_hosts.specs.Transacting.{without_ended, pass_client, with_client}
 use Rattle.sc_walks.proofs.WalkHosts.{takes-walks, pass_client-walks}
 use Rattle.sc_walks.specs.Walks.{HostLaws, IsLate, NetLaws}
 
@@ -159,7 +159,7 @@ module _ {S : Type 0} {Begins : Form S → Type 0} (H : ℕ → ℕ → ℕ → 
   cancel_for-walks app branch at_once (Some client) net = if-walks _ net _ net (cancel_by-walks app branch client net) (law.same net)
 
   respond_by-walks : (number event : ℕ) (response : Response) (server : Option Server) (net : Net S) → P net (respond_by number event response server net)
-  unfolding respond_by tidied
+  unfolding respond_by without_ended
   respond_by-walks number event response None net = law.same net
   respond_by-walks number event response (Some server) net =
       if-walks _ net _ net (law.after _ _ _ (change_host-walks number _ net (λ host. (hosts number net.moment).passes net.count host _ _)) (put-walks number server.peer _ None _)) (law.same net)

@@ -25,7 +25,7 @@ use Rattle.sc_hosts.specs.Runs.{after_step, chained_from}
 use Rattle.sc_hosts.specs.Sessions.{Form, Turn}
 use Rattle.sc_hosts.specs.Steps.{closed_turn, without_application as invalidated, before_delivery as stepped, net_after_turn as turned, turns, turns_first, withdrawn, without_live}
 use Rattle.sc_hosts.specs.Ticks.{mark_fired}
-use Rattle.sc_hosts.specs.Transacting.{tidied}
+use Rattle.sc_hosts.specs.Transacting.{without_ended}
 use Rattle.sc_lives.specs.Numbers.{AreNumbered, IsNumberedAt, IsRising}
 use Rattle.sc_lives.proofs.NumberedNets.{host_at-numbered}
 use Rattle.sc_once.proofs.Finding.{slice_get-other}
@@ -142,7 +142,7 @@ module _ {S : Type 0} where
 
   module _ (form : Form S) (setup : Setup) where
     without-rises : (app : AppId) (net : Net S) → Rises net (without_live app net)
-    unfolding without_live tidied
+    unfolding without_live without_ended
     without-rises app net = same-last app.host _ net (λ host. refl)
 
     invalidated-rises : (app : AppId) (session : Session) (inbox : List Waiting) (net : Net S) → Rises net (invalidated setup app session inbox net)

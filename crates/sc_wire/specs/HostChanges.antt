@@ -9,7 +9,7 @@ use Rattle.sc_state.specs.declared.net.Net.{Net}
 use Rattle.sc_state.specs.declared.session.Session.{Session}
 use Rattle.sc_inboxes.specs.declared.told.Told.{Told}
 use Rattle.sc_hosts.specs.Nets.{answered_server, put_reply}
-use Rattle.sc_hosts.specs.Transacting.{is_server, tidied, with_client}
+use Rattle.sc_hosts.specs.Transacting.{is_server, without_ended, with_client}
 
 -- the host with one client transaction more
 unfoldable pub with_own_client : Client → Host Session → Host Session
@@ -18,7 +18,7 @@ with_own_client client host = with_client client host
 -- the host after an answer of this event, as it is kept tidy
 unfoldable pub answered_host : ℕ → ℕ → Response → Host Session → Host Session
 answered_host event now response host =
-    tidied
+    without_ended
     (record host {
       servers = change_first (is_server event) (answered_server response.code now response)
           host.servers;
