@@ -29,13 +29,13 @@ impl<'a> Model for Texts<'a> {
 }
 
 fn is_parting(b: u8, quoted: bool) -> bool
-    ensures { result ≡ (b == 44 && not text_in_quotes) }
+    ensures { result ≡ (b == 44 && not quoted) }
 {
     b == b',' && !quoted
 }
 
 fn is_quoted_after(b: u8, quoted: bool) -> bool
-    ensures { result ≡ (if b == 34 then not text_in_quotes else text_in_quotes) }
+    ensures { result ≡ (if b == 34 then not quoted else quoted) }
 {
     if b == b'"' { !quoted } else { quoted }
 }

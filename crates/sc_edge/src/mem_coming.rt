@@ -34,7 +34,7 @@ impl Model for Coming {
     ghost view = { λ s.
         record {
           left = left_of s.from (drop s.next s.items);
-          polled = joined s.answers.items s.bytes.items;
+          polled = answers_with_bytes s.answers.items s.bytes.items;
           is_closed = s.is_closed;
           spare = s.spare;
         } };

@@ -61,7 +61,7 @@ impl MemShelf {
 }
 
 impl Shelf for MemShelf {
-    ghost holds = { λ s name. held s.items name };
+    ghost holds = { λ s name. bytes_under s.items name };
 
     ghost faults = { λ s. s.faults };
 

@@ -125,7 +125,7 @@ fn cancel_with(
     ensures { IfOk result
         (λ t.
         replying client.now.peer (Message.Request (cancel_of client.now.request))
-        (taken_by (with_client (cancelling now client.now) host.old) take_provisional)
+        (taken_by (with_client (cancelling now client.now) host.old) told)
         ≡ taken_by host.new t) }
 {
     let request = cancel_of(alloc, client.request.get())?;
@@ -146,7 +146,7 @@ fn with_reply(
 ) -> Result<Told, NoMemory>
     ensures { IfOk result
         (λ t.
-        with_reply out now client.now response.now (taken_by host.old take_provisional)
+        with_reply out now client.now response.now (taken_by host.old told)
         ≡ taken_by host.new t) }
 {
     if out.ack {
