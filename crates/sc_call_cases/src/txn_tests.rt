@@ -69,35 +69,19 @@ const SERVERS: [(bool, Option<u16>, u16, bool, bool, bool, TxnState); 11] = [
     (true, None, 699, true, true, true, TxnState::Completed),
 ];
 
-/// None where the code is none.
-fn respond(txn: &mut ClientTxn, code: u16, now: u8) -> Option<ClientOut> {
-    if code < 100 || 699 < code {
-        return None;
-    }
-    Some(txn.on_response(code, now as u64))
-}
-
-/// None where the code is none.
-fn answer(txn: &mut ServerTxn, code: u16, now: u8) -> Option<bool> {
-    if code < 100 || 699 < code {
-        return None;
-    }
-    Some(txn.on_answer(code, now as u64))
-}
-
 #[test]
 fn client_table(rt: HostRuntime) {
     for (invite, before, code, tell, ack, state) in CLIENTS {
         let mut txn = ClientTxn::new(invite, 0);
         if let Some(before) = before {
-            let _ = respond(&mut txn, before, 1);
+            let _ = txn.on_response(before, 1);
         }
         let out = ClientOut {
             tell,
             ack,
             cancel: false,
         };
-        assert_eq!(rt; respond(&mut txn, code, 2), Some(out), "what {code} does");
+        assert_eq!(rt; txn.on_response(code, 2), out, "what {code} does");
         assert_eq!(rt; txn.state(), state, "the state after {code}");
     }
 }
@@ -107,13 +91,9 @@ fn server_table(rt: HostRuntime) {
     for (invite, before, code, sent, again, absorbed, state) in SERVERS {
         let mut txn = ServerTxn::new(invite);
         if let Some(before) = before {
-            let _ = answer(&mut txn, before, 1);
+            let _ = txn.on_answer(before, 1);
         }
-        assert_eq!(rt;
-            answer(&mut txn, code, 2),
-            Some(sent),
-            "whether {code} is sent"
-        );
+        assert_eq!(rt; txn.on_answer(code, 2), sent, "whether {code} is sent");
         assert_eq!(rt; txn.state(), state, "the state after {code}");
         assert_eq!(rt; txn.on_request(), again, "the request again after {code}");
         assert_eq!(rt; txn.on_ack(), absorbed, "an ACK after {code}");
@@ -123,13 +103,13 @@ fn server_table(rt: HostRuntime) {
 #[test]
 fn client_timers(rt: HostRuntime) {
     let mut txn = ClientTxn::new(true, 5);
-    assert_eq!(rt; txn.due(), Some(32_005));
+    assert_eq!(rt; txn.due(), Ok(Some(32_005)));
     assert_eq!(rt; txn.on_cancel(6).cancel, false);
     assert_eq!(rt; txn.on_response(100, 7).cancel, true);
-    assert_eq!(rt; txn.due(), Some(32_007));
+    assert_eq!(rt; txn.due(), Ok(Some(32_007)));
     assert_eq!(rt; txn.on_timer(32_006).tell, None);
     assert_eq!(rt; txn.on_timer(32_007).tell, Some(408));
-    assert_eq!(rt; txn.due(), None);
+    assert_eq!(rt; txn.due(), Ok(None));
     let mut lost = ClientTxn::new(false, 0);
     assert_eq!(rt; lost.on_lost().tell, Some(503));
     assert_eq!(rt; lost.state(), TxnState::Terminated);
@@ -139,7 +119,7 @@ fn client_timers(rt: HostRuntime) {
 fn server_timers(rt: HostRuntime) {
     let mut txn = ServerTxn::new(true);
     assert_eq!(rt; txn.on_answer(200, 8), true);
-    assert_eq!(rt; txn.due(), Some(32_008));
+    assert_eq!(rt; txn.due(), Ok(Some(32_008)));
     txn.on_timer(32_007);
     assert_eq!(rt; txn.state(), TxnState::Accepted);
     txn.on_timer(32_008);

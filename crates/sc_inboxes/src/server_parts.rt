@@ -12,9 +12,9 @@ ghost use Rattle.sc_inboxes.specs.TakenParts.{taken_by};
 use crate::told::{Told, answering};
 use sc_messages::trying_response;
 use sc_parts::ServerItem;
-use sc_state::{Host, Peer, Server, Session};
+use sc_state::{Host, Peer, Server, ServerPast, Session};
 use sc_transact::{is_ack, is_invite};
-use sc_value::{AppId, CloneIn, List, NoMemory, Request, Response, Shared, Text};
+use sc_value::{AppId, CloneIn, NoMemory, Request, Response, Shared, Text};
 use std::alloc::Global;
 
 fn new_server(
@@ -38,6 +38,7 @@ fn new_server(
           last = None;
         }) }
 {
+    let passed = ServerPast::new(alloc, is_invite(request.get()));
     let request = request.clone_in(alloc)?;
     let server = Server {
         app,
@@ -45,7 +46,7 @@ fn new_server(
         peer,
         tag,
         request,
-        passed: List::new(alloc),
+        passed,
         last: None,
     };
     Shared::new(alloc, server)
@@ -90,14 +91,10 @@ fn tried(
     let last = Shared::new(alloc, trying(alloc, request)?)?;
     let mut own = server.clone_in(alloc)?;
     own.last = Some(last);
-    own.passed.items.reserve_exact(1)?;
-    own.passed.items.insert(
-        0,
-        ServerItem::AnswerGiven {
-            code: 100,
-            moment: now,
-        },
-    )?;
+    own.passed.take(ServerItem::AnswerGiven {
+        code: 100,
+        moment: now,
+    })?;
     Shared::new(alloc, own)
 }
 

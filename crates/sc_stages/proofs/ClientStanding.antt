@@ -11,7 +11,7 @@ use Rattle.sc_model.proofs.ClientTransactions.{client_state-next, client_due-nex
 use Rattle.sc_model.proofs.TransactionFacts.{client_state-none, client_due-none, has_asking-none}
 use Rattle.sc_stages.proofs.Places.{drop_before}
 use Rattle.sc_stages.specs.Stages.{due_since, next_waiting_begun, next_begun, client_next, ClientStands}
-use Rattle.sc_stages.specs.declared.client_stage.ClientStage.{ClientStage}
+use Rattle.sc_stages.specs.declared.clients.ClientStage.{ClientStage}
 
 -- when a timer is due where one of two runs
 due_of : (b : Bool) (x y : Option ℕ) → due_since (if b then x else y) ≡ (if b then due_since x else due_since y)
@@ -32,9 +32,10 @@ begun-due invite Completed begun asked item = refl
 begun-due invite Accepted begun asked item = due_of (reaches (due_since begun) item) None begun
 begun-due invite Terminated begun asked item = refl
 
-stands-next : (stage : ClientStage) (invite : Bool) (sent : ℕ) (passed : List ClientItem) (item : ClientItem) → ClientStands stage invite sent passed → ClientStands (client_next invite stage item) invite sent (item ∷ passed)
+-- one item more
+pub client_more : (stage : ClientStage) (invite : Bool) (sent : ℕ) (passed : List ClientItem) (item : ClientItem) → ClientStands stage invite sent passed → ClientStands (client_next invite stage item) invite sent (item ∷ passed)
 unfolding client_next has_asking
-stands-next stage invite sent passed item stands = record {
+client_more stage invite sent passed item stands = record {
   state_is = rw (stands.state_is, stands.due_is) (sym (client_state-next invite sent passed item));
   due_is = rw (begun-due, stands.state_is, stands.due_is, stands.asked_is) (sym (client_due-next invite sent passed item));
   asked_is = ap (λ b. asks_cancel item || b) stands.asked_is;
@@ -52,7 +53,7 @@ client_begun invite sent state is = record {
 pub client_taken : (stage next : ClientStage) (invite : Bool) (sent : ℕ) (passed : List ClientItem) (before : ℕ) (d : ClientItem) → 0 < before → before ≤ length passed
     → next ≡ client_next invite stage (get_or passed (before - 1) d) → ClientStands stage invite sent (drop before passed) → ClientStands next invite sent (drop (before - 1) passed)
 client_taken stage next invite sent passed before d some within made stands =
-    rw (made, drop_before passed before d some within) (stands-next stage invite sent (drop before passed) (get_or passed (before - 1) d) stands)
+    rw (made, drop_before passed before d some within) (client_more stage invite sent (drop before passed) (get_or passed (before - 1) d) stands)
 
 -- what it does with an item
 pub client_does : (stage : ClientStage) (out : ClientOut) (invite : Bool) (sent : ℕ) (passed : List ClientItem) (item : ClientItem) → ClientStands stage invite sent passed

@@ -1,17 +1,17 @@
 -- What has become of a server transaction, item by item.
-use Rattle.std.proofs.Common.{◌≡◌, ℕ, ◌-◌, ◌<◌, ◌≤◌, List, [], ◌∷◌, Bool, true, false, ◌||◌, Option, None, Some, if◌then◌else◌, is_some, refl, sym, ◌∙◌, length, drop, get_or}
+use Rattle.std.proofs.Common.{◌≡◌, ℕ, ◌-◌, ◌<◌, ◌≤◌, List, [], ◌∷◌, Bool, true, false, ◌||◌, Option, None, Some, if◌then◌else◌, is_some, refl, sym, ap, ◌∙◌, length, drop, get_or}
 use Rattle.std.specs.List.{list_any}
 use Rattle.sc_parts.specs.declared.transactions.TxnState.{TxnState}
 use Rattle.sc_parts.specs.declared.transactions.TxnState.TheVariants.{Calling, Trying, Proceeding, Completed, Accepted, Terminated}
 use Rattle.sc_parts.specs.declared.transactions.ServerItem.{ServerItem}
 use Rattle.sc_parts.specs.declared.transactions.ServerItem.TheVariants.{RequestAgain, AckCame, AnswerGiven, MomentCame}
 use Rattle.sc_model.specs.Transactions.{Found, found_with, first_in_time}
-use Rattle.sc_model.specs.ServerTransactions.{final_answer, is_final_answer}
+use Rattle.sc_model.specs.ServerTransactions.{is_answer, final_answer, is_final_answer}
 use Rattle.sc_model.specs.TransactionTables.{undecided_due, ends, next_server_due}
 use Rattle.sc_model.proofs.ServerTransactions.{server_state-next, server_due-next}
-use Rattle.sc_model.proofs.ServerTransactionFacts.{server_state-none, server_due-none}
+use Rattle.sc_model.proofs.ServerTransactionFacts.{server_state-none, server_due-none, has_answer-none, has_answer-next}
 use Rattle.sc_stages.specs.Stages.{due_since, undecided_begun, next_server_begun, server_next, ServerStands}
-use Rattle.sc_stages.specs.declared.server_stage.ServerStage.{ServerStage}
+use Rattle.sc_stages.specs.declared.servers.ServerStage.{ServerStage}
 use Rattle.sc_stages.proofs.Places.{drop_before}
 
 due_of : (b : Bool) (x y : Option ℕ) → due_since (if b then x else y) ≡ (if b then due_since x else due_since y)
@@ -32,22 +32,28 @@ begun-due invite Completed begun item = due_of (ends Completed (due_since begun)
 begun-due invite Accepted begun item = due_of (ends Accepted (due_since begun) item) None begun
 begun-due invite Terminated begun item = refl
 
-stands-next : (stage : ServerStage) (invite : Bool) (passed : List ServerItem) (item : ServerItem) → ServerStands stage invite passed → ServerStands (server_next invite stage item) invite (item ∷ passed)
+-- one item more
+pub server_more : (stage : ServerStage) (invite : Bool) (passed : List ServerItem) (item : ServerItem) → ServerStands stage invite passed → ServerStands (server_next invite stage item) invite (item ∷ passed)
 unfolding server_next
-stands-next stage invite passed item stands = record {
+server_more stage invite passed item stands = record {
   state_is = rw (stands.state_is, stands.due_is) (sym (server_state-next invite passed item));
   due_is = rw (begun-due, stands.state_is, stands.due_is) (sym (server_due-next invite passed item));
+  answered_is = ap (λ b. is_answer item || b) stands.answered_is ∙ sym (has_answer-next passed item);
 }
 
 -- before any item
-pub server_begun : (invite : Bool) (state : TxnState) → state ≡ (if invite then Proceeding else Trying) → ServerStands (record { state = state; begun = None }) invite []
-server_begun invite state is = record { state_is = is ∙ sym (server_state-none invite); due_is = sym (server_due-none invite) }
+pub server_begun : (invite : Bool) (state : TxnState) → state ≡ (if invite then Proceeding else Trying) → ServerStands (record { state = state; begun = None; answered = false }) invite []
+server_begun invite state is = record {
+  state_is = is ∙ sym (server_state-none invite);
+  due_is = sym (server_due-none invite);
+  answered_is = sym has_answer-none;
+}
 
 -- the next item, from the oldest on
 pub server_taken : (stage next : ServerStage) (invite : Bool) (passed : List ServerItem) (before : ℕ) (d : ServerItem) → 0 < before → before ≤ length passed
     → next ≡ server_next invite stage (get_or passed (before - 1) d) → ServerStands stage invite (drop before passed) → ServerStands next invite (drop (before - 1) passed)
 server_taken stage next invite passed before d some within made stands =
-    rw (made, drop_before passed before d some within) (stands-next stage invite (drop before passed) (get_or passed (before - 1) d) stands)
+    rw (made, drop_before passed before d some within) (server_more stage invite (drop before passed) (get_or passed (before - 1) d) stands)
 
 -- ## A final answer
 

@@ -10,10 +10,10 @@ use Rattle.sc_parts.specs.declared.transactions.ServerItem.{ServerItem}
 use Rattle.sc_parts.specs.declared.transactions.ServerItem.TheVariants as server
 use Rattle.sc_model.specs.SessionStates.{is_final}
 use Rattle.sc_model.specs.Transactions.{TIMEOUT, is_success, is_reached, reaches, asks_cancel, has_asking, client_state, client_due}
-use Rattle.sc_model.specs.ServerTransactions.{server_state, server_due}
+use Rattle.sc_model.specs.ServerTransactions.{is_answer, has_answer, server_state, server_due}
 use Rattle.sc_model.specs.TransactionTables.{next_state, is_calling, sends_cancel, ends, next_server_state}
-use Rattle.sc_stages.specs.declared.client_stage.ClientStage.{ClientStage}
-use Rattle.sc_stages.specs.declared.server_stage.ServerStage.{ServerStage}
+use Rattle.sc_stages.specs.declared.clients.ClientStage.{ClientStage}
+use Rattle.sc_stages.specs.declared.servers.ServerStage.{ServerStage}
 
 -- when a timer is due that began at this moment
 abbrev pub due_since : Option ℕ → Option ℕ
@@ -97,6 +97,7 @@ unfoldable pub server_next : Bool → ServerStage → ServerItem → ServerStage
 server_next invite stage item = record {
   state = next_server_state invite stage.state (due_since stage.begun) item;
   begun = next_server_begun invite stage.state stage.begun item;
+  answered = is_answer item || stage.answered;
 }
 
 -- it is what these items have made of a transaction
@@ -104,3 +105,4 @@ pub record ServerStands (stage : ServerStage) (invite : Bool)
     (passed : List ServerItem) : Type 0 where
   pub state_is : stage.state ≡ server_state invite passed
   pub due_is : due_since stage.begun ≡ server_due invite passed
+  pub answered_is : stage.answered ≡ has_answer passed

@@ -3,17 +3,21 @@
 //! and the parts of a message by which a transaction is known.
 #![tactic(auto)]
 
-mod client_stage;
+mod clients;
 mod methods;
 mod moments;
 mod outputs;
-mod server_stage;
+mod servers;
 mod states;
 mod vias;
 
-pub use client_stage::{client_due, client_state};
+pub use clients::{ClientStage, client_begun, client_next, client_stage};
 pub use methods::{is_ack, is_cancel, is_invite, method_of, same_bytes};
-pub use outputs::{client_out, has_provisional};
-pub use server_stage::{has_final_answer, is_sent, is_sent_again, server_due, server_state};
+pub use moments::due_since;
+pub use outputs::{has_provisional, output};
+pub use servers::{
+    ServerStage, absorbs_in, has_final_answer, repeats_in, sends_in, server_begun, server_next,
+    server_stage,
+};
 pub use states::{is_completed, is_over, is_proceeding};
 pub use vias::{branch_of, top_via};

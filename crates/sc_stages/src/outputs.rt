@@ -1,11 +1,11 @@
 //! What a client transaction does with an item that comes.
 
 ghost use Rattle.std.specs.Prelude.{◌≡◌};
-ghost use Rattle.sc_model.specs.Transactions.{client_out, has_provisional, brings_provisional, told_waiting, told_accepted, wants_ack, NOTHING};
+ghost use Rattle.sc_model.specs.Transactions.{has_provisional, brings_provisional, told_waiting, told_accepted, wants_ack, NOTHING};
 ghost use Rattle.sc_model.specs.TransactionTables.{sends_cancel, output, waiting_out};
 ghost use Rattle.sc_stages.specs.Stages.{due_since};
 
-use crate::client_stage::{ClientStage, client_stage, is_calling, is_proceeding};
+use crate::clients::{ClientStage, is_calling, is_proceeding};
 use crate::moments::is_reached;
 use sc_methods::is_success;
 use sc_parts::{ClientItem, ClientOut, TxnState};
@@ -103,7 +103,8 @@ fn told(tell: Option<u16>) -> ClientOut
     }
 }
 
-fn output(invite: bool, stage: ClientStage, item: ClientItem) -> ClientOut
+/// What a client transaction of this stage does with an item that comes.
+pub fn output(invite: bool, stage: ClientStage, item: ClientItem) -> ClientOut
     ensures { result ≡ output invite stage.state (due_since stage.begun) stage.asked item }
 {
     match stage.state {
@@ -113,12 +114,4 @@ fn output(invite: bool, stage: ClientStage, item: ClientItem) -> ClientOut
         TxnState::Accepted => told(told_accepted(item)),
         TxnState::Completed | TxnState::Terminated => nothing(),
     }
-}
-
-/// What the transaction does with an item that comes where these have passed.
-pub fn client_out(invite: bool, sent: u64, passed: &[ClientItem], item: ClientItem) -> ClientOut
-    ensures { result ≡ client_out invite sent passed.now item }
-{
-    let stage = client_stage(invite, sent, passed);
-    output(invite, stage, item)
 }

@@ -1,5 +1,6 @@
 use crate::{Host, Timed, Waiting};
-use sc_parts::{ClientItem, ServerItem, TimerName};
+use sc_parts::TimerName;
+use sc_txn::{ClientPast, ServerPast};
 use sc_value::{AppId, List, Message, Place, Request, Response, Shared, Text};
 
 /// The other end of a transaction.
@@ -39,7 +40,7 @@ pub struct Client {
     /// The moment at which it was sent, in milliseconds.
     pub sent: u64,
     /// What has passed it, the newest first.
-    pub passed: List<ClientItem>,
+    pub passed: ClientPast,
 }
 
 /// A server transaction (RFC 3261 section 17.2).
@@ -53,7 +54,7 @@ pub struct Server {
     pub tag: Text,
     pub request: Shared<Request>,
     /// What has passed it, the newest first.
-    pub passed: List<ServerItem>,
+    pub passed: ServerPast,
     /// The response that was sent last.
     pub last: Option<Shared<Response>>,
 }

@@ -5,7 +5,7 @@ ghost use Rattle.sc_state.specs.Standing.{is_invite_client, is_cancel_client, is
 
 use crate::{Client, Server};
 use sc_parts::TxnState;
-use sc_stages::{client_due, client_state, is_cancel, is_invite, server_due, server_state};
+use sc_stages::{is_cancel, is_invite};
 use sc_value::{AppId, NoMemory};
 
 /// Whether the client transaction is that of an INVITE.
@@ -34,11 +34,7 @@ pub fn is_invite_server(server: &Server) -> bool
 pub fn state_of_client(client: &Client) -> TxnState
     ensures { result ≡ state_of_client client.now }
 {
-    client_state(
-        is_invite_client(client),
-        client.sent,
-        client.passed.as_slice(),
-    )
+    client.passed.state(is_invite_client(client), client.sent)
 }
 
 /// The state of a server transaction.
@@ -46,7 +42,7 @@ pub fn state_of_client(client: &Client) -> TxnState
 pub fn state_of_server(server: &Server) -> TxnState
     ensures { result ≡ state_of_server server.now }
 {
-    server_state(is_invite_server(server), server.passed.as_slice())
+    server.passed.state(is_invite_server(server))
 }
 
 /// The moment at which the timer that runs is due, None where none runs.
@@ -54,11 +50,7 @@ pub fn state_of_server(server: &Server) -> TxnState
 pub fn due_of_client(client: &Client) -> Result<Option<u64>, NoMemory>
     ensures { IfOk result (λ due. due ≡ due_of_client client.now) }
 {
-    client_due(
-        is_invite_client(client),
-        client.sent,
-        client.passed.as_slice(),
-    )
+    client.passed.due(is_invite_client(client), client.sent)
 }
 
 /// The moment at which the timer that runs is due, None where none runs.
@@ -66,7 +58,7 @@ pub fn due_of_client(client: &Client) -> Result<Option<u64>, NoMemory>
 pub fn due_of_server(server: &Server) -> Result<Option<u64>, NoMemory>
     ensures { IfOk result (λ due. due ≡ due_of_server server.now) }
 {
-    server_due(is_invite_server(server), server.passed.as_slice())
+    server.passed.due(is_invite_server(server))
 }
 
 /// Whether two names of application sessions are the same.

@@ -19,8 +19,8 @@ use sc_messages::own_response;
 use sc_parts::ServerItem;
 use sc_state::{Host, Peer, Queued, Server, Session};
 use sc_transact::{
-    acked_server, cancelled_server, has_final, is_ack, is_cancel, is_invite_server, is_sent_again,
-    pass_server, repeated_server,
+    acked_server, cancelled_server, has_final, is_ack, is_cancel, is_invite_server, pass_server,
+    repeated_server,
 };
 use sc_value::{CloneIn, Message, NoMemory, Request, Response, Shared};
 use std::alloc::Global;
@@ -102,7 +102,7 @@ pub fn repeated(
 ) -> Result<Told, NoMemory>
     ensures { IfOk result (λ t. take_repeated server.now count host.old ≡ taken_by host.new t) }
 {
-    let again = is_sent_again(is_invite_server(server), server.passed.as_slice());
+    let again = server.passed.repeats(is_invite_server(server));
     pass_server(alloc, server.event, ServerItem::RequestAgain, host)?;
     last_again(alloc, server, again, count)
 }

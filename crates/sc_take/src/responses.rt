@@ -11,10 +11,10 @@ ghost use Rattle.sc_inboxes.specs.TakenParts.{taken_by};
 use sc_inboxes::{Told, asking, is_full_at, queue, quiet};
 use sc_messages::{ack_of, cancel_of, without_via};
 use sc_parts::{ClientItem, ClientOut};
-use sc_state::{Client, Host, Peer, Queued, Session};
+use sc_state::{Client, ClientPast, Host, Peer, Queued, Session};
 use sc_terms::Config;
 use sc_transact::{client_for, is_cancel_client, out_of_client, pass_client, with_client};
-use sc_value::{CloneIn, Head, List, NoMemory, Response, Same, Shared};
+use sc_value::{CloneIn, Head, NoMemory, Response, Same, Shared};
 use std::alloc::Global;
 
 // What is the same as a transaction's own has the transaction's owner from now on. Where the count
@@ -110,7 +110,7 @@ pub fn cancelling(alloc: Global, now: u64, client: &Client) -> Result<Client, No
         peer: client.peer,
         request,
         sent: now,
-        passed: List::new(alloc),
+        passed: ClientPast::new(alloc, false, now),
     })
 }
 

@@ -12,7 +12,7 @@ ghost use Rattle.sc_transact.specs.Ringing.{is_ringing};
 use crate::names::counted_part;
 use crate::probes::Answered;
 use sc_parts::{ClientItem, ClientOut};
-use sc_stages::{branch_of, client_out, has_provisional, top_via};
+use sc_stages::{branch_of, has_provisional, top_via};
 use sc_state::{Client, Host, Peer, Session, is_invite_client, is_same_app, text_number};
 use sc_value::{AppId, CloneIn, List, NoMemory, Response, Shared, Via};
 use std::alloc::Global;
@@ -22,12 +22,9 @@ use std::alloc::Global;
 pub fn out_of_client(client: &Client, item: ClientItem) -> ClientOut
     ensures { result ≡ out_of_client client.now item }
 {
-    client_out(
-        is_invite_client(client),
-        client.sent,
-        client.passed.as_slice(),
-        item,
-    )
+    client
+        .passed
+        .out(is_invite_client(client), client.sent, item)
 }
 
 // The number under which the client transaction is found that the top Via's branch names.
@@ -77,8 +74,7 @@ fn client_passed(
     ensures { IfOk result (λ own. own ≡ client_passed item client.now) }
 {
     let mut own = client.clone_in(alloc)?;
-    own.passed.items.reserve_exact(1)?;
-    own.passed.items.insert(0, item)?;
+    own.passed.take(item)?;
     Shared::new(alloc, own)
 }
 

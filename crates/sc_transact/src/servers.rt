@@ -80,8 +80,7 @@ fn server_passed(
     ensures { IfOk result (λ own. own ≡ server_passed item server.now) }
 {
     let mut own = server.clone_in(alloc)?;
-    own.passed.items.reserve_exact(1)?;
-    own.passed.items.insert(0, item)?;
+    own.passed.take(item)?;
     Shared::new(alloc, own)
 }
 

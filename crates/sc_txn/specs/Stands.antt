@@ -1,28 +1,24 @@
 -- What a transaction of the code holds, and which lists of what has passed a transaction it stands
 -- for (RFC 3261 section 17, RFC 6026).
-use Rattle.std.specs.Prelude.{◌≡◌, ℕ, Bool, List, ◌∷◌, Option}
-use Rattle.sc_parts.specs.declared.transactions.TxnState.{TxnState}
+use Rattle.std.specs.Prelude.{◌≡◌, ℕ, Bool, List, ◌∷◌}
 use Rattle.sc_parts.specs.declared.transactions.ClientOut.{ClientOut}
 use Rattle.sc_parts.specs.declared.transactions.ClientItem.{ClientItem}
 use Rattle.sc_parts.specs.declared.transactions.ServerItem.{ServerItem}
-use Rattle.sc_model.specs.Transactions.{has_asking, client_state, client_due, client_out}
-use Rattle.sc_model.specs.ServerTransactions.{has_answer, server_state, server_due}
+use Rattle.sc_model.specs.Transactions.{client_out}
+use Rattle.sc_stages.specs.Stages as stages
+use Rattle.sc_stages.specs.declared.clients.ClientStage.{ClientStage}
+use Rattle.sc_stages.specs.declared.servers.ServerStage.{ServerStage}
 
--- what a client transaction holds: whether its request is an INVITE, its state, when the timer that
--- runs is due, and whether a CANCEL was asked for
+-- what a client transaction holds: whether its request is an INVITE, and what has become of it
 pub record Client : Type 0 where
   pub invite : Bool
-  pub state : TxnState
-  pub due : Option ℕ
-  pub asked : Bool
+  pub stage : ClientStage
 
 -- it stands for a transaction, sent at a moment, that these items have passed
 pub record ClientStands (t : Client) (invite : Bool) (sent : ℕ)
     (passed : List ClientItem) : Type 0 where
   pub invite_is : t.invite ≡ invite
-  pub state_is : t.state ≡ client_state invite sent passed
-  pub due_is : t.due ≡ client_due invite sent passed
-  pub asked_is : t.asked ≡ has_asking passed
+  pub stage_is : stages.ClientStands t.stage invite sent passed
 
 -- for every list that it stood for, it stands for that list with this item more
 abbrev pub ClientTakes : Client → Client → ClientItem → Type 0
@@ -36,20 +32,15 @@ ClientDoes old item out =
     (invite : Bool) (sent : ℕ) (passed : List ClientItem) → ClientStands old invite sent passed
     → out ≡ client_out invite sent passed item
 
--- what a server transaction holds: whether its request is an INVITE, its state, when the timer that
--- runs is due, and whether an answer was given
+-- what a server transaction holds: whether its request is an INVITE, and what has become of it
 pub record Server : Type 0 where
   pub invite : Bool
-  pub state : TxnState
-  pub due : Option ℕ
-  pub answered : Bool
+  pub stage : ServerStage
 
 -- it stands for a transaction that these items have passed
 pub record ServerStands (t : Server) (invite : Bool) (passed : List ServerItem) : Type 0 where
   pub invite_is : t.invite ≡ invite
-  pub state_is : t.state ≡ server_state invite passed
-  pub due_is : t.due ≡ server_due invite passed
-  pub answered_is : t.answered ≡ has_answer passed
+  pub stage_is : stages.ServerStands t.stage invite passed
 
 -- for every list that it stood for, it stands for that list with this item more
 abbrev pub ServerTakes : Server → Server → ServerItem → Type 0

@@ -1,24 +1,23 @@
 //! Server transactions (RFC 3261 section 17.2, RFC 6026 section 7.1).
 
-ghost use Rattle.std.specs.Prelude.{◌≡◌, ◌≤◌, ◌^◌, ◌+◌, [], Bool, List, true, false, not, ◌&&◌, if◌then◌else◌};
+ghost use Rattle.std.specs.Prelude.{◌≡◌, [], Bool, List, IfOk};
 ghost use Rattle.sc_parts.specs.declared.transactions.ServerItem.{ServerItem};
-ghost use Rattle.sc_model.specs.Transactions.{is_undecided, is_success, is_reached};
-ghost use Rattle.sc_model.specs.ServerTransactions.{server_state, server_due, is_sent, is_sent_again, is_absorbed, sends_in, repeats_in, absorbs_in};
-ghost use Rattle.sc_model.specs.TransactionTables.{answered_state, answered_due};
+ghost use Rattle.sc_model.specs.ServerTransactions.{server_state, server_due, is_sent, is_sent_again, is_absorbed};
 ghost use Rattle.sc_txn.specs.Stands.{ServerStands, ServerTakes};
 
-use crate::codes::{TIMEOUT, is_reached, is_undecided};
-use sc_methods::is_success;
-use sc_parts::TxnState;
+use sc_parts::{ServerItem, TxnState};
+use sc_stages::{
+    ServerStage, absorbs_in, due_since, repeats_in, sends_in, server_begun, server_next,
+    server_stage,
+};
+use sc_value::NoMemory;
 use std::marker::Model;
 
-/// A server transaction. Moments are in milliseconds, at most 2^63.
+/// A server transaction. Moments are in milliseconds.
 #[derive(Clone, Copy)]
 pub struct ServerTxn {
     invite: bool,
-    state: TxnState,
-    due: Option<u64>,
-    answered: bool,
+    stage: ServerStage,
 }
 
 impl Model for ServerTxn {
@@ -26,24 +25,40 @@ impl Model for ServerTxn {
 
     ghost Value = { Server };
 
-    ghost view = { λ t.
-        record { invite = t.invite; state = t.state; due = t.due; answered = t.answered } };
+    ghost view = { λ t. record { invite = t.invite; stage = t.stage } };
 
-    ghost inverse = { λ t.
-        record { invite = t.invite; state = t.state; due = t.due; answered = t.answered } };
+    ghost inverse = { λ t. record { invite = t.invite; stage = t.stage } };
 }
 
 impl ServerTxn {
     /// The transaction of an INVITE or of another request that came.
+    #[tactic(auto, using(crate::proofs::Standing::server_of))]
     pub fn new(invite: bool) -> ServerTxn
         ensures { ServerStands result invite [] }
     {
         ServerTxn {
             invite,
-            state: first_state(invite),
-            due: None,
-            answered: false,
+            stage: server_begun(invite),
         }
+    }
+
+    /// The transaction of an INVITE, or of another request, that these items have passed, the newest
+    /// first.
+    #[tactic(auto, using(crate::proofs::Standing::server_of))]
+    pub fn after(invite: bool, passed: &[ServerItem]) -> ServerTxn
+        ensures { ServerStands result invite passed.now }
+    {
+        ServerTxn {
+            invite,
+            stage: server_stage(invite, passed),
+        }
+    }
+
+    /// Whether its request is an INVITE.
+    pub fn is_invite(&self) -> bool
+        ensures { result ≡ self.now.invite }
+    {
+        self.invite
     }
 
     /// The state.
@@ -51,176 +66,94 @@ impl ServerTxn {
         ensures { (invite : Bool) (passed : List ServerItem)
             → ServerStands self.now invite passed → result ≡ server_state invite passed }
     {
-        self.state
+        self.stage.state
     }
 
-    /// The moment at which the timer that runs is due; None exactly where none runs.
-    pub fn due(&self) -> Option<u64>
-        ensures { (invite : Bool) (passed : List ServerItem)
-            → ServerStands self.now invite passed → result ≡ server_due invite passed }
+    /// The moment at which the timer that runs is due, None exactly where none runs. An error where
+    /// that moment is none of 64 bits.
+    pub fn due(&self) -> Result<Option<u64>, NoMemory>
+        ensures { IfOk result
+            (λ due.
+            (invite : Bool) (passed : List ServerItem)
+            → ServerStands self.now invite passed → due ≡ server_due invite passed) }
     {
-        self.due
+        due_since(self.stage.begun)
     }
 
-    /// The request came again: whether the last answer is sent again. It is where there is one, in
-    /// Proceeding and Completed (RFC 3261 sections 17.2.1 and 17.2.2).
+    /// Whether the last answer is sent again where the request comes again. It is where there is
+    /// one, in Proceeding and Completed (RFC 3261 sections 17.2.1 and 17.2.2).
+    pub fn repeats(&self) -> bool
+        ensures { (invite : Bool) (passed : List ServerItem)
+            → ServerStands self.now invite passed → result ≡ is_sent_again invite passed }
+    {
+        self.stage.answered && repeats_in(self.stage.state)
+    }
+
+    /// Whether an answer of this code is sent. Each is until a final one was given; after it a
+    /// further 2xx to INVITE is, but not in Completed.
+    #[tactic(auto, using(crate::proofs::Standing::server_sends))]
+    pub fn sends(&self, code: u16) -> bool
+        ensures { (invite : Bool) (passed : List ServerItem)
+            → ServerStands self.now invite passed → result ≡ is_sent invite passed code }
+    {
+        sends_in(self.invite, self.stage.state, code)
+    }
+
+    /// Whether an ACK is absorbed as that of a final answer other than 2xx (RFC 3261 section
+    /// 17.2.1).
+    #[tactic(auto, using(crate::proofs::Standing::server_absorbs))]
+    pub fn absorbs(&self) -> bool
+        ensures { (invite : Bool) (passed : List ServerItem)
+            → ServerStands self.now invite passed → result ≡ is_absorbed invite passed }
+    {
+        absorbs_in(self.stage.state)
+    }
+
+    /// An item passes it.
+    pub fn take(&mut self, item: ServerItem)
+        ensures { ServerTakes self.old self.new item }
+    {
+        self.stage = server_next(self.invite, self.stage, item);
+    }
+
+    /// The request came again: whether the last answer is sent again.
     pub fn on_request(&mut self) -> bool
         ensures stands { ServerTakes self.old self.new ServerItem.RequestAgain }
         ensures again { (invite : Bool) (passed : List ServerItem)
             → ServerStands self.old invite passed → result ≡ is_sent_again invite passed }
     {
-        self.repeats()
+        let again = self.repeats();
+        self.take(ServerItem::RequestAgain);
+        again
     }
 
-    /// Whether the request that comes again gets the last answer again.
-    fn repeats(&self) -> bool
-        ensures { result ≡ (self.now.answered && repeats_in self.now.state) }
-    {
-        self.answered && repeats_in(self.state)
-    }
-
-    /// An ACK came: whether it is absorbed as that of a final answer other than 2xx, which ends the
-    /// transaction (RFC 3261 section 17.2.1).
+    /// An ACK came: whether it is absorbed, which ends the transaction.
     pub fn on_ack(&mut self) -> bool
         ensures stands { ServerTakes self.old self.new ServerItem.AckCame }
         ensures absorbed { (invite : Bool) (passed : List ServerItem)
             → ServerStands self.old invite passed → result ≡ is_absorbed invite passed }
     {
-        if !absorbs_in(self.state) {
-            return false;
-        }
-        self.stop();
-        true
+        let absorbed = self.absorbs();
+        self.take(ServerItem::AckCame);
+        absorbed
     }
 
-    /// An answer of this code, 100 to 699, was given at this moment: whether it is sent. The first
-    /// final one decides; after it a further 2xx to INVITE is sent, but not in Completed.
+    /// An answer of this code was given at this moment: whether it is sent. The first final one
+    /// decides.
     pub fn on_answer(&mut self, code: u16, now: u64) -> bool
-        requires moment { now ≤ 2 ^ 63 }
-        requires least { 100 ≤ code }
-        requires most { code ≤ 699 }
         ensures stands { ServerTakes self.old self.new (ServerItem.AnswerGiven code now) }
         ensures sent { (invite : Bool) (passed : List ServerItem)
             → ServerStands self.old invite passed → result ≡ is_sent invite passed code }
     {
-        let sent = sends_in(self.invite, self.state, code);
-        if is_undecided(self.state) {
-            self.answer(code, now);
-        } else {
-            self.answered = true;
-        }
+        let sent = self.sends(code);
+        self.take(ServerItem::AnswerGiven { code, moment: now });
         sent
-    }
-
-    /// An answer where no final one was given.
-    fn answer(&mut self, code: u16, now: u64)
-        requires { now ≤ 2 ^ 63 }
-        ensures { self.new
-            ≡ record self.old {
-              state = answered_state self.old.invite code;
-              due = answered_due self.old.invite code now;
-              answered = true;
-            } }
-    {
-        self.state = answered_state(self.invite, code);
-        self.due = answered_due(self.invite, code, now);
-        self.answered = true;
     }
 
     /// The clock reached this moment. Where timer H or L is due the transaction ends.
     pub fn on_timer(&mut self, now: u64)
-        requires { now ≤ 2 ^ 63 }
-        ensures stands { ServerTakes self.old self.new (ServerItem.MomentCame now) }
+        ensures { ServerTakes self.old self.new (ServerItem.MomentCame now) }
     {
-        if is_reached(self.due, now) {
-            self.stop();
-        }
-    }
-
-    /// Ends it.
-    fn stop(&mut self)
-        ensures { self.new ≡ record self.old { state = TxnState.Terminated; due = None } }
-    {
-        self.state = TxnState::Terminated;
-        self.due = None;
-    }
-}
-
-/// Before any answer.
-fn first_state(invite: bool) -> TxnState
-    ensures { result ≡ (if invite then TxnState.Proceeding else TxnState.Trying) }
-{
-    if invite {
-        TxnState::Proceeding
-    } else {
-        TxnState::Trying
-    }
-}
-
-/// After an answer where no final one was given.
-fn answered_state(invite: bool, code: u16) -> TxnState
-    ensures { result ≡ answered_state invite code }
-{
-    if code < 200 {
-        return TxnState::Proceeding;
-    }
-    if !invite {
-        return TxnState::Terminated;
-    }
-    if is_success(code) {
-        TxnState::Accepted
-    } else {
-        TxnState::Completed
-    }
-}
-
-/// Timer L or H, after a final answer to an INVITE.
-fn answered_due(invite: bool, code: u16, now: u64) -> Option<u64>
-    requires { now ≤ 2 ^ 63 }
-    ensures { result ≡ answered_due invite code now }
-{
-    if 199 < code && invite {
-        Some(now + TIMEOUT)
-    } else {
-        None
-    }
-}
-
-/// Whether an answer of this code is sent.
-#[tactic(auto, unfolding(sc_model::specs::ServerTransactions::sends_in))]
-fn sends_in(invite: bool, state: TxnState, code: u16) -> bool
-    ensures { result ≡ sends_in invite state code }
-{
-    match state {
-        TxnState::Calling | TxnState::Trying | TxnState::Proceeding => true,
-        TxnState::Completed => false,
-        TxnState::Accepted => is_success(code),
-        TxnState::Terminated => invite && is_success(code),
-    }
-}
-
-/// Whether the request that comes again gets the last answer again, where there is one.
-#[tactic(auto, unfolding(sc_model::specs::ServerTransactions::repeats_in))]
-fn repeats_in(state: TxnState) -> bool
-    ensures { result ≡ repeats_in state }
-{
-    match state {
-        TxnState::Proceeding | TxnState::Completed => true,
-        TxnState::Calling | TxnState::Trying | TxnState::Accepted | TxnState::Terminated => false,
-    }
-}
-
-/// Whether an ACK is absorbed.
-#[tactic(auto, unfolding(sc_model::specs::ServerTransactions::absorbs_in))]
-fn absorbs_in(state: TxnState) -> bool
-    ensures { result ≡ absorbs_in state }
-{
-    match state {
-        TxnState::Completed => true,
-        TxnState::Calling
-        | TxnState::Trying
-        | TxnState::Proceeding
-        | TxnState::Accepted
-        | TxnState::Terminated => false,
+        self.take(ServerItem::MomentCame { moment: now });
     }
 }

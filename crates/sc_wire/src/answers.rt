@@ -12,7 +12,7 @@ ghost use Rattle.sc_wire.specs.HostChanges.{answered_host};
 use crate::wire::{host_at, put};
 use sc_parts::ServerItem;
 use sc_state::{Host, Net, Server, Session};
-use sc_transact::{is_invite_server, is_sent};
+use sc_transact::is_invite_server;
 use sc_value::{AppId, CloneIn, Message, NoMemory, Response, Shared};
 use std::alloc::Global;
 
@@ -29,10 +29,8 @@ fn answered_server(
     let last = response.clone_in(alloc)?;
     let mut own = server.clone_in(alloc)?;
     own.last = Some(last);
-    own.passed.items.reserve_exact(1)?;
     own.passed
-        .items
-        .insert(0, ServerItem::AnswerGiven { code, moment: now })?;
+        .take(ServerItem::AnswerGiven { code, moment: now })?;
     Shared::new(alloc, own)
 }
 
@@ -102,11 +100,7 @@ fn response_message(alloc: Global, response: &Shared<Response>) -> Result<Messag
 fn lets_go(server: &Server, response: &Response) -> bool
     ensures { result ≡ is_sent (is_invite_server server.now) server.now.passed response.now.code }
 {
-    is_sent(
-        is_invite_server(server),
-        server.passed.as_slice(),
-        response.code,
-    )
+    server.passed.sends(is_invite_server(server), response.code)
 }
 
 // A response goes by its server transaction, where that lets it go.

@@ -13,8 +13,9 @@ use crate::wire::{put, queue_for, with_client_at};
 use sc_inboxes::edge_response;
 use sc_messages::without_via;
 use sc_parts::Choice;
-use sc_state::{Client, Net, Note, Peer, Queued, Session};
+use sc_state::{Client, ClientPast, Net, Note, Peer, Queued, Session};
 use sc_terms::Config;
+use sc_transact::is_invite;
 use sc_value::{
     Address, AppId, CloneIn, List, Message, NoMemory, Place, Request, Response, Shared,
 };
@@ -154,6 +155,7 @@ fn new_client(
           passed = [];
         }) }
 {
+    let passed = ClientPast::new(alloc, is_invite(request.get()), sent);
     let request = request.clone_in(alloc)?;
     Ok(Client {
         app,
@@ -161,7 +163,7 @@ fn new_client(
         peer,
         request,
         sent,
-        passed: List::new(alloc),
+        passed,
     })
 }
 

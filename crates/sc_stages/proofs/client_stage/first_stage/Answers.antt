@@ -1,5 +1,0 @@
-use Rattle.sc_stages.proofs.ClientStanding.{client_begun}
-use Rattle.sc_stages.proofs.client_stage.first_stage.Goals as goal
-
-pub returns : goal.returns
-returns c = client_begun c.args.invite c.args.sent c.first_state.result c.first_state.ensures

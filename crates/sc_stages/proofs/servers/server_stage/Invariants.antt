@@ -1,0 +1,12 @@
+use Rattle.std.proofs.Common.{◌≤◌, length, drop}
+use Rattle.sc_stages.specs.Stages.{ServerStands}
+use Rattle.sc_stages.proofs.servers.server_stage.Given as goal
+
+abbrev pub invariant-loop-at : goal.invariant-loop-at
+invariant-loop-at l = record {
+  within : l.at ≤ length l.passed;
+  stands : ServerStands l.stage l.invite (drop l.at l.passed);
+}
+
+abbrev pub decreases-loop-at : goal.decreases-loop-at
+decreases-loop-at l = l.at
