@@ -75,7 +75,7 @@ pub none_book : {X : Type 0} (group_of : X → ℕ × ℕ) (es : Placed X) (cs :
 unfolding AreFresh
 none_book {X} group_of es cs ks sorted none up = record { sorted = sorted; ordered = up; fresh = subst (λ l. AreFresh group_of es l ks) (sym none) tt }
 
-no_changes : {X : Type 0} (cs : List X) → length cs ≡ 0 → cs ≡ []
+pub no_changes : {X : Type 0} (cs : List X) → length cs ≡ 0 → cs ≡ []
 no_changes [] none = refl
 no_changes (c ∷ cs) none = absurd (omega (arith, none))
 

@@ -5,6 +5,7 @@ mod FoundLaws
 mod PlaceSets
 mod GatherLaws
 mod FreshLaws
+mod TopLaws
 mod FirstLaws
 mod CountLaws
 mod RowLaws

@@ -74,6 +74,10 @@ two_new old new place ks ls one more two = record { has = λ v is. by v (new.0 =
     by v true same is = subst (λ n. (old n || has_pair ls n place) ≡ true) (same_number new.0 v same) (or_grown (old new.0) (has_pair ks new.0 place) (has_pair ls new.0 place) (more.grown new.0 place) one)
     by v false same is = subst (λ n. (old n || has_pair ls n place) ≡ true) (same_number new.1 v is) two
 
+-- two that are alike are one
+pub twice_new : (old : ℕ → Bool) (new : ℕ × ℕ) (place : ℕ) (ks : Pairs) → (old new.0 || has_pair ks new.0 place) ≡ true → new.1 ≡ new.0 → HasOr old (in_groups new) place ks
+twice_new old new place ks one same = two_new old new place ks ks one (grown_own ks) (subst (λ n. (old n || has_pair ks n place) ≡ true) (sym same) one)
+
 -- what was there and what came
 pub has_new : (old new : ℕ → Bool) (place : ℕ) (ks ls : Pairs) → HasOwn old place ks → Grown ks ls → HasOr old new place ls → HasOwn new place ls
 has_new old new place ks ls had more there = record { has = λ v is. by v (old v) refl (there.has v is) }

@@ -79,7 +79,7 @@ found_laid q p None es =
     found_without q p es ∙ left_out (eq_by_cmp nat_cmp p q) (eq_by_cmp nat_cmp q p) ((eq_by_cmp_equiv nat_cmp_total).symm p q) (find nat_cmp q es)
 found_laid q p (Some x) es = find-put nat_cmp nat_cmp_total q p x es
 
-sorted_laid : {X : Type 0} (p : ℕ) (o : Option X) (es : Placed X) → T (is_sorted nat_cmp es) → T (is_sorted nat_cmp (laid es p o))
+pub sorted_laid : {X : Type 0} (p : ℕ) (o : Option X) (es : Placed X) → T (is_sorted nat_cmp es) → T (is_sorted nat_cmp (laid es p o))
 unfolding laid
 sorted_laid p None es h = is_sorted-where_key nat_cmp (λ x. not (eq_by_cmp nat_cmp p x)) es h
 sorted_laid p (Some x) es h = is_sorted-put nat_cmp nat_cmp_total p x es h

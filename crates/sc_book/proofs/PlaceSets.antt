@@ -1,5 +1,5 @@
 -- Sets of places that are filled from an index, or from items.
-use Rattle.std.proofs.Common.{◌≡◌, ◌<◌, ℕ, Bool, true, false, not, cond, ◌&&◌, ◌||◌, T, Some, List, [], ◌∷◌, refl, ap, sym, subst, ◌∙◌, arith}
+use Rattle.std.proofs.Common.{◌≡◌, ◌<◌, ℕ, Bool, true, false, not, cond, ◌&&◌, ◌||◌, T, Some, List, [], ◌∷◌, length, refl, ap, sym, subst, ◌∙◌, arith}
 use Rattle.std.proofs.lemmas.Bool.Decides.{nat_tests}
 use Rattle.std.specs.declared.cmp.Ordering.TheVariants.{Less, Equal, Greater}
 use Rattle.std.specs.List.{filter}
@@ -34,6 +34,12 @@ there_insert p (x ∷ xs) =
       | Equal ↦ λ same. ap (λ o. is_eq o || has_place xs p) same
       | Greater ↦ λ _. ap (λ b. is_eq (nat_cmp p x) || b) (there_insert p xs) ∙ or_true (is_eq (nat_cmp p x))
     ] refl
+
+pub more_insert : (k : ℕ) (ks ls : List ℕ) → ls ≡ insert_key nat_cmp ks k → MorePlaces ks ls
+more_insert k ks ls is = record { more = λ p there. ap (λ l. has_place l p) is ∙ kept_insert p k ks there }
+
+pub own_insert : (k : ℕ) (ks ls : List ℕ) → ls ≡ insert_key nat_cmp ks k → has_place ls k ≡ true
+own_insert k ks ls is = ap (λ l. has_place l k) is ∙ there_insert k ks
 
 -- ## The places of items
 
@@ -124,6 +130,11 @@ to_past v p past q low t =
 pub below_there : (past : ℕ) (pairs : BTreeSet (ℕ × ℕ)) (ks ls : List ℕ) → ls ≡ with_places ks (pairs_below past pairs) → (v p : ℕ) → v < past → has_pair pairs.keys v p ≡ true → has_place ls p ≡ true
 below_there past pairs ks ls is v p low there = ap (λ l. has_place l p) is ∙ there_places v p ks (pairs_below past pairs)
     (there_filter (λ q. true && not (is_le (pair_cmp (past, 0) q))) v p pairs.keys (λ q t. to_past v p past q low t) there)
+
+-- an empty index has no pair
+pub none_there : (pairs : Pairs) (v p : ℕ) (ls : List ℕ) → length pairs ≡ 0 → has_pair pairs v p ≡ true → has_place ls p ≡ true
+none_there [] v p ls none there = absurd (subst T (sym there) tt)
+none_there (x ∷ xs) v p ls none there = absurd (omega (arith, none))
 
 pub from_more : (number past : ℕ) (pairs : BTreeSet (ℕ × ℕ)) (ks ls : List ℕ) → ls ≡ with_places ks (pairs_from number past pairs) → MorePlaces ks ls
 from_more number past pairs ks ls is = record { more = λ p there. ap (λ l. has_place l p) is ∙ kept_places p ks (pairs_from number past pairs) there }

@@ -7,3 +7,4 @@ pub mod Groups
 pub mod Firsts
 pub mod Counts
 pub mod Keys
+pub mod Tops

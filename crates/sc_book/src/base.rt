@@ -51,6 +51,13 @@ impl<T: Item> Base<T> {
         }
     }
 
+    /// The items are in the order of their places.
+    pub fn order(&self)
+        ensures { is_sorted nat_cmp self.now ≡ true }
+    {
+        let _ = &self.indexes;
+    }
+
     /// The item at a place.
     #[tactic(auto, using(crate::proofs::PlaceLaws::seen_at))]
     pub fn get(&self, place: u64) -> Option<&Entry<T>>

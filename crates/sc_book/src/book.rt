@@ -9,7 +9,7 @@ use crate::Item;
 use crate::entry::Entry;
 use crate::index::Index;
 use crate::indexes::add_groups;
-use crate::shared_base::SharedBase;
+use crate::topped::Topped;
 use sc_value::{NoMemory, Shared};
 use std::alloc::Global;
 use std::collections::BTreeMap;
@@ -19,7 +19,7 @@ use std::marker::Model;
 /// own that lie over it.
 #[derive(Drop)]
 pub struct Book<T: Item> {
-    pub(crate) base: SharedBase<T>,
+    pub(crate) base: Topped<T>,
     /// What was changed since; None takes an item away.
     pub(crate) changes: BTreeMap<u64, Option<Entry<T>>>,
     /// The places of what was put there, by the groups; there may be more.
@@ -42,12 +42,12 @@ impl<T: Item> Book<T> {
     pub fn new(alloc: Global) -> Book<T>
         ensures { result ≡ [] }
     {
-        Book::of_base(alloc, SharedBase::new())
+        Book::of_base(alloc, Topped::new(alloc))
     }
 
     /// The items of a base, without changes. It takes no memory.
     #[tactic(auto, using(crate::proofs::PlaceLaws::none_laid, crate::proofs::FreshLaws::none_book))]
-    pub fn of_base(alloc: Global, base: SharedBase<T>) -> Book<T>
+    pub fn of_base(alloc: Global, base: Topped<T>) -> Book<T>
         requires { is_sorted nat_cmp base ≡ true }
         ensures { result ≡ base }
     {
@@ -78,7 +78,20 @@ impl<T: Item> Book<T> {
     }
 
     /// Puts an item at a place. The cost is logarithmic in the number of the changes.
+    #[tactic(auto, using(crate::proofs::TopLaws::bare_book, crate::proofs::TopLaws::bare_put))]
     pub fn put(&mut self, place: u64, entry: Entry<T>) -> Result<(), NoMemory>
+        ensures ok { OnOk result (self.new ≡ with_item self.old place entry) }
+        ensures err { OnErr result (self.new ≡ self.old) }
+    {
+        if self.changes.is_empty() && self.base.has_room(place) {
+            self.base.lay(place, Some(entry))?;
+            return Ok(());
+        }
+        self.put_over(place, entry)
+    }
+
+    // The same, over the changes that there are.
+    fn put_over(&mut self, place: u64, entry: Entry<T>) -> Result<(), NoMemory>
         ensures ok { OnOk result (self.new ≡ with_item self.old place entry) }
         ensures err { OnErr result (self.new ≡ self.old) }
     {
@@ -89,8 +102,21 @@ impl<T: Item> Book<T> {
     }
 
     /// Takes the item at a place away. The cost is logarithmic in the number of the changes.
-    #[tactic(auto, using(crate::proofs::PlaceLaws::taken_over, crate::proofs::FreshLaws::take_book))]
+    #[tactic(auto, using(crate::proofs::TopLaws::bare_book, crate::proofs::TopLaws::bare_take))]
     pub fn take(&mut self, place: u64) -> Result<(), NoMemory>
+        ensures ok { OnOk result (self.new ≡ without_item self.old place) }
+        ensures err { OnErr result (self.new ≡ self.old) }
+    {
+        if self.changes.is_empty() && self.base.has_room(place) {
+            self.base.lay(place, None)?;
+            return Ok(());
+        }
+        self.take_over(place)
+    }
+
+    // The same, over the changes that there are.
+    #[tactic(auto, using(crate::proofs::PlaceLaws::taken_over, crate::proofs::FreshLaws::take_book))]
+    fn take_over(&mut self, place: u64) -> Result<(), NoMemory>
         ensures ok { OnOk result (self.new ≡ without_item self.old place) }
         ensures err { OnErr result (self.new ≡ self.old) }
     {
@@ -106,7 +132,8 @@ impl<T: Item> Book<T> {
         if !self.changes.is_empty() {
             return Err(NoMemory);
         }
-        Ok(self.base.first_but(places))
+        let next = self.base.first_but(places)?;
+        Ok(next)
     }
 
     /// No items from now on. It takes no memory.
@@ -114,7 +141,7 @@ impl<T: Item> Book<T> {
     pub fn clear(&mut self)
         ensures { self.new ≡ [] }
     {
-        self.base = SharedBase::new();
+        self.base.clear();
         self.changes.clear();
         self.fresh.clear();
     }
@@ -125,7 +152,7 @@ impl<T: Item> Book<T> {
     pub fn settle(&mut self, alloc: Global)
         ensures { self.new ≡ self.old }
     {
-        if self.changes.is_empty() {
+        if self.changes.is_empty() && self.base.is_bare() {
             return;
         }
         self.base.settle(alloc, &mut self.changes);
@@ -136,7 +163,7 @@ impl<T: Item> Book<T> {
 }
 
 // The groups of the item at a place, where there is one.
-fn groups_in<T: Item>(base: &SharedBase<T>, place: u64) -> Option<(u64, u64)>
+fn groups_in<T: Item>(base: &Topped<T>, place: u64) -> Option<(u64, u64)>
     ensures { result ≡ option_map T.groups (at_place place base.now) }
 {
     match base.get(place) {
@@ -148,7 +175,7 @@ fn groups_in<T: Item>(base: &SharedBase<T>, place: u64) -> Option<(u64, u64)>
 // The newest of the change at a place, where there is one, and of the base's item.
 fn newest<'a, T: Item>(
     change: Option<&'a Option<Entry<T>>>,
-    base: &'a SharedBase<T>,
+    base: &'a Topped<T>,
     place: u64,
 ) -> Option<&'a Entry<T>>
     ensures { option_copied result

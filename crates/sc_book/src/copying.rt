@@ -11,8 +11,12 @@ use std::alloc::Global;
 use std::collections::BTreeMap;
 
 impl<T: Item> CloneIn for Book<T> {
+    #[tactic(auto, using(crate::proofs::FreshLaws::settled_items))]
     fn clone_in(&self, alloc: Global) -> Result<Book<T>, NoMemory> {
         let mut copy = Book::of_base(alloc, self.base.clone_in(alloc)?);
+        if self.changes.is_empty() {
+            return Ok(copy);
+        }
         add_changes(alloc, &self.changes, &mut copy)?;
         Ok(copy)
     }

@@ -65,12 +65,15 @@ impl Index {
     }
 
     /// Adds the places of a number.
-    #[tactic(auto, using(crate::proofs::PlaceSets::from_more, crate::proofs::PlaceSets::from_there, crate::proofs::PlaceSets::up_more, crate::proofs::PlaceSets::up_there))]
+    #[tactic(auto, using(crate::proofs::PlaceSets::from_more, crate::proofs::PlaceSets::from_there, crate::proofs::PlaceSets::up_more, crate::proofs::PlaceSets::up_there, crate::proofs::PlaceSets::more_own, crate::proofs::PlaceSets::none_there))]
     pub fn places_at(&self, number: u64, places: &mut BTreeSet<u64>) -> Result<(), NoMemory>
         ensures more { OnOk result (MorePlaces places.old.keys places.new.keys) }
         ensures there { OnOk result
             ((p : ℕ) → has_pair self.now number p ≡ true → has_place places.new.keys p ≡ true) }
     {
+        if self.pairs.is_empty() {
+            return Ok(());
+        }
         if number == u64::MAX {
             add_up(&self.pairs, number, places)
         } else {

@@ -51,7 +51,9 @@ impl Indexes {
         end_number(&mut self.dues, old.due, due_of(new), place);
         end_number(&mut self.firsts, old.first, first_of(new), place);
         end_group(&mut self.groups, old.groups.0, groups_of(new), place);
-        end_group(&mut self.groups, old.groups.1, groups_of(new), place);
+        if old.groups.1 != old.groups.0 {
+            end_group(&mut self.groups, old.groups.1, groups_of(new), place);
+        }
     }
 }
 
@@ -129,7 +131,7 @@ fn add_other(index: &mut Index, old: Option<u64>, new: u64, place: u64) -> Resul
 }
 
 /// Adds the pairs of a place's new groups, where the former ones were others.
-#[tactic(auto, using(crate::proofs::PairLaws::grown_on, crate::proofs::PairLaws::two_new))]
+#[tactic(auto, using(crate::proofs::PairLaws::grown_on, crate::proofs::PairLaws::two_new, crate::proofs::PairLaws::twice_new))]
 pub fn add_groups(
     index: &mut Index,
     old: Option<(u64, u64)>,
@@ -140,6 +142,9 @@ pub fn add_groups(
     ensures there { OnOk result (HasOr (is_group old) (in_groups new) place index.new) }
 {
     add_group(index, old, new.0, place)?;
+    if new.1 == new.0 {
+        return Ok(());
+    }
     add_group(index, old, new.1, place)
 }
 

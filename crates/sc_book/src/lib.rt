@@ -27,6 +27,8 @@ mod probe;
 mod rows;
 mod settling;
 mod shared_base;
+mod top;
+mod topped;
 mod wanted;
 
 pub use item::{Item, Keyed};

@@ -6,10 +6,12 @@ ghost use Rattle.std.specs.Ordering.{nat_cmp};
 ghost use Rattle.std.specs.FinMap.Entries.{is_sorted};
 ghost use Rattle.sc_book.specs.Places.{all_laid, with_item_at};
 ghost use Rattle.sc_book.specs.Groups.{KeepsBook};
+ghost use Rattle.sc_book.specs.Tops.{topped};
 
 use crate::Item;
 use crate::base::Base;
 use crate::entry::Entry;
+use crate::top::Top;
 use sc_value::{CloneIn, NoMemory};
 use std::alloc::Global;
 use std::collections::BTreeMap;
@@ -30,6 +32,33 @@ pub fn settle_in<T: Item>(
     match Arc::get_mut(base) {
         Some(own) => settle_all(alloc, own, changes),
         None => {}
+    }
+}
+
+/// Lets a change that lies over a base go in, where nobody else has the base.
+pub fn settle_top_in<T: Item>(alloc: Global, base: &mut Arc<Base<T>>, top: &mut Option<Box<Top<T>>>)
+    ensures { topped (arc_value base.new) top.new ≡ topped (arc_value base.old) top.old }
+{
+    match Arc::get_mut(base) {
+        Some(own) => settle_top(alloc, own, top),
+        None => {}
+    }
+}
+
+fn settle_top<T: Item>(alloc: Global, base: &mut Base<T>, top: &mut Option<Box<Top<T>>>)
+    ensures { topped base.new top.new ≡ topped base.old top.old }
+{
+    let (place, change) = match &*top {
+        Some(top) => (top.place, top.change.clone_in(alloc)),
+        None => return,
+    };
+    let change = match change {
+        Ok(change) => change,
+        Err(NoMemory) => return,
+    };
+    match lay(place, change, base) {
+        Ok(()) => *top = None,
+        Err(NoMemory) => {}
     }
 }
 

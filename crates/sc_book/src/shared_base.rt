@@ -7,11 +7,13 @@ ghost use Rattle.sc_book.specs.Words.{belongs, is_before};
 ghost use Rattle.sc_book.specs.Gathering.{Covers, MorePlaces};
 ghost use Rattle.sc_book.specs.Groups.{KeepsBook};
 ghost use Rattle.sc_book.specs.Firsts.{free_of, earliest_at};
+ghost use Rattle.sc_book.specs.Tops.{topped};
 
 use crate::Item;
 use crate::base::Base;
 use crate::entry::Entry;
-use crate::settling::settle_in;
+use crate::settling::{settle_in, settle_top_in};
+use crate::top::Top;
 use sc_value::{CloneIn, NoMemory};
 use std::alloc::Global;
 use std::collections::{BTreeMap, BTreeSet};
@@ -39,6 +41,16 @@ impl<T: Item> SharedBase<T> {
         ensures { result ≡ [] }
     {
         SharedBase { base: None }
+    }
+
+    /// The items are in the order of their places.
+    pub fn order(&self)
+        ensures { is_sorted nat_cmp self.now ≡ true }
+    {
+        match &self.base {
+            Some(base) => base.order(),
+            None => {}
+        }
     }
 
     /// The item at a place.
@@ -110,6 +122,18 @@ impl<T: Item> SharedBase<T> {
         self.begin(alloc);
         match &mut self.base {
             Some(base) => settle_in(alloc, base, changes),
+            None => {}
+        }
+    }
+
+    /// Lets a change that lies over the items go in, where nobody else has them and there is memory
+    /// for it.
+    pub fn settle_top(&mut self, alloc: Global, top: &mut Option<Box<Top<T>>>)
+        ensures { topped self.new top.new ≡ topped self.old top.old }
+    {
+        self.begin(alloc);
+        match &mut self.base {
+            Some(base) => settle_top_in(alloc, base, top),
             None => {}
         }
     }
