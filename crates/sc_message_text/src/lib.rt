@@ -26,7 +26,7 @@ pub use finishing::{lacking, put_together};
 pub use folds::join;
 pub use keeping::has_branch;
 pub use lines::{put_address_line, put_cseq_line, put_line, put_via_line};
-pub use messages::{text_of, write};
+pub use messages::{bytes_of, text_of, write};
 pub use names::{call_id_name, cseq_name, from_name, to_name, via_name};
 pub use refused::MessageRefused;
 pub use sc_ascii::{trim, trim_back};

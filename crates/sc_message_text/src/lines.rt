@@ -10,38 +10,44 @@ use crate::headers::{put_cseq, put_via};
 use crate::items::Form;
 use crate::names;
 use crate::pieces::put_line_end;
-use sc_value::{Address, CSeq, Contact, Field, NoMemory, Text, Via, write_u64};
+use sc_uri_text::{Growing, put_number};
+use sc_value::{Address, CSeq, Contact, Field, NoMemory, Via};
 
-pub fn put_name(name: &[u8], out: &mut Text) -> Result<(), NoMemory>
-    ensures { OnOk result (out.new ≡ out.old ++ (name.now ++ 58 ∷ 32 ∷ [])) }
+pub fn put_name<G: Growing>(name: &[u8], out: &mut G) -> Result<(), NoMemory>
+    ensures { OnOk result (G.bytes out.new ≡ G.bytes out.old ++ (name.now ++ 58 ∷ 32 ∷ [])) }
 {
-    out.append(name)?;
-    out.append(b": ")
+    out.put_bytes(name)?;
+    out.put_bytes(b": ")
 }
 
 /// Appends the line of the header of this name with this value.
 #[tactic(auto, unfolding(sc_grammar::specs::Written::line))]
-pub fn put_line(name: &[u8], value: &[u8], out: &mut Text) -> Result<(), NoMemory>
-    ensures { OnOk result (out.new ≡ out.old ++ line name.now value.now) }
+pub fn put_line<G: Growing>(name: &[u8], value: &[u8], out: &mut G) -> Result<(), NoMemory>
+    ensures { OnOk result (G.bytes out.new ≡ G.bytes out.old ++ line name.now value.now) }
 {
     put_name(name, out)?;
-    out.append(value)?;
+    out.put_bytes(value)?;
     put_line_end(out)
 }
 
 #[tactic(auto, unfolding(sc_grammar::specs::Written::line))]
-pub fn put_number_line(name: &[u8], number: u64, out: &mut Text) -> Result<(), NoMemory>
-    ensures { OnOk result (out.new ≡ out.old ++ line name.now (decimal number)) }
+pub fn put_number_line<G: Growing>(name: &[u8], number: u64, out: &mut G) -> Result<(), NoMemory>
+    ensures { OnOk result (G.bytes out.new ≡ G.bytes out.old ++ line name.now (decimal number)) }
 {
     put_name(name, out)?;
-    write_u64(number, out)?;
+    put_number(number, out)?;
     put_line_end(out)
 }
 
 /// Appends the line of the header of this name whose value is this address.
 #[tactic(auto, unfolding(sc_grammar::specs::Written::line))]
-pub fn put_address_line(name: &[u8], address: &Address, out: &mut Text) -> Result<(), NoMemory>
-    ensures { OnOk result (out.new ≡ out.old ++ line name.now (address_text address.now)) }
+pub fn put_address_line<G: Growing>(
+    name: &[u8],
+    address: &Address,
+    out: &mut G,
+) -> Result<(), NoMemory>
+    ensures { OnOk result
+        (G.bytes out.new ≡ G.bytes out.old ++ line name.now (address_text address.now)) }
 {
     put_name(name, out)?;
     put_address(address, out)?;
@@ -50,8 +56,9 @@ pub fn put_address_line(name: &[u8], address: &Address, out: &mut Text) -> Resul
 
 /// Appends the line of CSeq.
 #[tactic(auto, unfolding(sc_grammar::specs::Written::line))]
-pub fn put_cseq_line(cseq: &CSeq, out: &mut Text) -> Result<(), NoMemory>
-    ensures { OnOk result (out.new ≡ out.old ++ line cseq_name (cseq_text cseq.now)) }
+pub fn put_cseq_line<G: Growing>(cseq: &CSeq, out: &mut G) -> Result<(), NoMemory>
+    ensures { OnOk result
+        (G.bytes out.new ≡ G.bytes out.old ++ line cseq_name (cseq_text cseq.now)) }
 {
     put_name(names::cseq_name(), out)?;
     put_cseq(cseq, out)?;
@@ -60,8 +67,8 @@ pub fn put_cseq_line(cseq: &CSeq, out: &mut Text) -> Result<(), NoMemory>
 
 /// Appends the line of a Via.
 #[tactic(auto, unfolding(sc_grammar::specs::Written::via_line, sc_grammar::specs::Written::line))]
-pub fn put_via_line(via: &Via, out: &mut Text) -> Result<(), NoMemory>
-    ensures { OnOk result (out.new ≡ out.old ++ via_line via.now) }
+pub fn put_via_line<G: Growing>(via: &Via, out: &mut G) -> Result<(), NoMemory>
+    ensures { OnOk result (G.bytes out.new ≡ G.bytes out.old ++ via_line via.now) }
 {
     put_name(names::via_name(), out)?;
     put_via(via, out)?;
@@ -69,8 +76,8 @@ pub fn put_via_line(via: &Via, out: &mut Text) -> Result<(), NoMemory>
 }
 
 #[tactic(auto, unfolding(sc_grammar::specs::Written::contact_line, sc_grammar::specs::Written::line))]
-fn put_contact_line(contact: &Contact, out: &mut Text) -> Result<(), NoMemory>
-    ensures { OnOk result (out.new ≡ out.old ++ contact_line contact.now) }
+fn put_contact_line<G: Growing>(contact: &Contact, out: &mut G) -> Result<(), NoMemory>
+    ensures { OnOk result (G.bytes out.new ≡ G.bytes out.old ++ contact_line contact.now) }
 {
     put_name(names::contact_name(), out)?;
     put_contact(contact, out)?;
@@ -82,7 +89,7 @@ pub struct ViaLine;
 impl Form<Via> for ViaLine {
     ghost form = { via_line };
 
-    fn put(item: &Via, out: &mut Text) -> Result<(), NoMemory> {
+    fn put(item: &Via, out: &mut Vec<u8>) -> Result<(), NoMemory> {
         put_via_line(item, out)
     }
 }
@@ -93,7 +100,7 @@ impl Form<Address> for RouteLine {
     ghost form = { route_line };
 
     #[tactic(auto, unfolding(sc_grammar::specs::Written::route_line))]
-    fn put(item: &Address, out: &mut Text) -> Result<(), NoMemory> {
+    fn put(item: &Address, out: &mut Vec<u8>) -> Result<(), NoMemory> {
         put_address_line(names::route_name(), item, out)
     }
 }
@@ -104,7 +111,7 @@ impl Form<Address> for RecordRouteLine {
     ghost form = { record_route_line };
 
     #[tactic(auto, unfolding(sc_grammar::specs::Written::record_route_line))]
-    fn put(item: &Address, out: &mut Text) -> Result<(), NoMemory> {
+    fn put(item: &Address, out: &mut Vec<u8>) -> Result<(), NoMemory> {
         put_address_line(names::record_route_name(), item, out)
     }
 }
@@ -114,7 +121,7 @@ pub struct ContactLine;
 impl Form<Contact> for ContactLine {
     ghost form = { contact_line };
 
-    fn put(item: &Contact, out: &mut Text) -> Result<(), NoMemory> {
+    fn put(item: &Contact, out: &mut Vec<u8>) -> Result<(), NoMemory> {
         put_contact_line(item, out)
     }
 }
@@ -125,7 +132,7 @@ impl Form<Field> for FieldLine {
     ghost form = { field_line };
 
     #[tactic(auto, unfolding(sc_grammar::specs::Written::field_line))]
-    fn put(item: &Field, out: &mut Text) -> Result<(), NoMemory> {
+    fn put(item: &Field, out: &mut Vec<u8>) -> Result<(), NoMemory> {
         put_line(item.name.as_bytes(), item.value.as_bytes(), out)
     }
 }

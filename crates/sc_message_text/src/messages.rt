@@ -16,10 +16,8 @@ use crate::lines::{
 use crate::names;
 use crate::pieces::{put_line_end, put_version};
 use sc_spelling::written_again;
-use sc_uri_text::{put_byte, put_uri};
-use sc_value::{
-    Address, Contact, Field, Head, Message, NoMemory, Request, Response, Text, Via, write_u64,
-};
+use sc_uri_text::{Growing, put_number, put_uri};
+use sc_value::{Address, Contact, Field, Head, Message, NoMemory, Request, Response, Text, Via};
 use std::alloc::Global;
 
 /// The written form of a message, in a text of its own (RFC 3261 section 7). The order of the
@@ -36,16 +34,19 @@ pub fn text_of(alloc: Global, message: &Message) -> Result<Text, NoMemory>
         → IfOk result (λ text. message_of text ≡ Ok other → other ≡ message.now) }
 {
     written_again(message);
-    written_text(alloc, message)
+    let bytes = bytes_of(alloc, message)?;
+    Text::from_vec(alloc, bytes)
 }
 
-// How many bytes a message has in most calls: a text of them is made without growing.
+// How many bytes a message has in most calls: a list of them is made without growing.
 const ROOM: usize = 512;
 
-fn written_text(alloc: Global, message: &Message) -> Result<Text, NoMemory>
-    ensures { IfOk result (λ text. text ≡ text_of_message message.now) }
+/// The bytes of a message's written form (RFC 3261 section 7), as [`text_of`] gives them. The one
+/// error is want of memory.
+pub fn bytes_of(alloc: Global, message: &Message) -> Result<Vec<u8>, NoMemory>
+    ensures { IfOk result (λ bytes. bytes.items ≡ text_of_message message.now) }
 {
-    let mut out = Text::with_room(alloc, ROOM)?;
+    let mut out = Vec::with_capacity(alloc, ROOM)?;
     put_message(message, &mut out)?;
     Ok(out)
 }
@@ -61,8 +62,8 @@ pub fn write(alloc: Global, message: &Message, out: &mut Text) -> Result<(), NoM
 }
 
 #[tactic(auto, unfolding(sc_grammar::specs::Written::text_of_message))]
-fn put_message(message: &Message, out: &mut Text) -> Result<(), NoMemory>
-    ensures { OnOk result (out.new ≡ out.old ++ text_of_message message.now) }
+fn put_message(message: &Message, out: &mut Vec<u8>) -> Result<(), NoMemory>
+    ensures { OnOk result (out.new.items ≡ out.old.items ++ text_of_message message.now) }
 {
     match message {
         Message::Request(request) => {
@@ -77,46 +78,46 @@ fn put_message(message: &Message, out: &mut Text) -> Result<(), NoMemory>
 }
 
 #[tactic(auto, unfolding(sc_grammar::specs::Written::request_line))]
-fn put_request_line(request: &Request, out: &mut Text) -> Result<(), NoMemory>
-    ensures { OnOk result (out.new ≡ out.old ++ request_line request.now) }
+fn put_request_line(request: &Request, out: &mut Vec<u8>) -> Result<(), NoMemory>
+    ensures { OnOk result (out.new.items ≡ out.old.items ++ request_line request.now) }
 {
-    out.append(request.method.as_bytes())?;
-    put_byte(b' ', out)?;
+    out.put_bytes(request.method.as_bytes())?;
+    out.put_one(b' ')?;
     put_uri(&request.uri, out)?;
-    put_byte(b' ', out)?;
+    out.put_one(b' ')?;
     put_version(out)?;
     put_line_end(out)
 }
 
 #[tactic(auto, unfolding(sc_grammar::specs::Written::status_line))]
-fn put_status_line(response: &Response, out: &mut Text) -> Result<(), NoMemory>
-    ensures { OnOk result (out.new ≡ out.old ++ status_line response.now) }
+fn put_status_line(response: &Response, out: &mut Vec<u8>) -> Result<(), NoMemory>
+    ensures { OnOk result (out.new.items ≡ out.old.items ++ status_line response.now) }
 {
     put_version(out)?;
-    put_byte(b' ', out)?;
-    write_u64(u64::from(response.code), out)?;
-    put_byte(b' ', out)?;
-    out.append(response.reason.as_bytes())?;
+    out.put_one(b' ')?;
+    put_number(u64::from(response.code), out)?;
+    out.put_one(b' ')?;
+    out.put_bytes(response.reason.as_bytes())?;
     put_line_end(out)
 }
 
 // All that follows the start line.
 #[tactic(auto, unfolding(sc_grammar::specs::Written::head_text))]
-fn put_head(hops: Option<u8>, head: &Head, out: &mut Text) -> Result<(), NoMemory>
-    ensures { OnOk result (out.new ≡ out.old ++ head_text hops head.now) }
+fn put_head(hops: Option<u8>, head: &Head, out: &mut Vec<u8>) -> Result<(), NoMemory>
+    ensures { OnOk result (out.new.items ≡ out.old.items ++ head_text hops head.now) }
 {
     put_routing_lines(head, out)?;
     put_hops_line(hops, out)?;
     put_dialog_lines(head, out)?;
     put_closing_lines(head, out)?;
     put_line_end(out)?;
-    out.append(head.body.as_bytes())
+    out.put_bytes(head.body.as_bytes())
 }
 
 // The lists of Via, Route and Record-Route.
 #[tactic(auto, unfolding(sc_grammar::specs::Written::routing_lines))]
-fn put_routing_lines(head: &Head, out: &mut Text) -> Result<(), NoMemory>
-    ensures { OnOk result (out.new ≡ out.old ++ routing_lines head.now) }
+fn put_routing_lines(head: &Head, out: &mut Vec<u8>) -> Result<(), NoMemory>
+    ensures { OnOk result (out.new.items ≡ out.old.items ++ routing_lines head.now) }
 {
     put_items::<Via, ViaLine>(head.via.as_slice(), out)?;
     put_items::<Address, RouteLine>(head.route.as_slice(), out)?;
@@ -124,8 +125,8 @@ fn put_routing_lines(head: &Head, out: &mut Text) -> Result<(), NoMemory>
 }
 
 #[tactic(auto, unfolding(sc_grammar::specs::Written::hops_line))]
-fn put_hops_line(hops: Option<u8>, out: &mut Text) -> Result<(), NoMemory>
-    ensures { OnOk result (out.new ≡ out.old ++ hops_line hops) }
+fn put_hops_line(hops: Option<u8>, out: &mut Vec<u8>) -> Result<(), NoMemory>
+    ensures { OnOk result (out.new.items ≡ out.old.items ++ hops_line hops) }
 {
     match hops {
         Some(hops) => put_number_line(names::max_forwards_name(), u64::from(hops), out),
@@ -134,8 +135,8 @@ fn put_hops_line(hops: Option<u8>, out: &mut Text) -> Result<(), NoMemory>
 }
 
 #[tactic(auto, unfolding(sc_grammar::specs::Written::dialog_lines))]
-fn put_dialog_lines(head: &Head, out: &mut Text) -> Result<(), NoMemory>
-    ensures { OnOk result (out.new ≡ out.old ++ dialog_lines head.now) }
+fn put_dialog_lines(head: &Head, out: &mut Vec<u8>) -> Result<(), NoMemory>
+    ensures { OnOk result (out.new.items ≡ out.old.items ++ dialog_lines head.now) }
 {
     put_address_line(names::from_name(), &head.from, out)?;
     put_address_line(names::to_name(), &head.to, out)?;
@@ -144,8 +145,8 @@ fn put_dialog_lines(head: &Head, out: &mut Text) -> Result<(), NoMemory>
 }
 
 #[tactic(auto, unfolding(sc_grammar::specs::Written::closing_lines))]
-fn put_closing_lines(head: &Head, out: &mut Text) -> Result<(), NoMemory>
-    ensures { OnOk result (out.new ≡ out.old ++ closing_lines head.now) }
+fn put_closing_lines(head: &Head, out: &mut Vec<u8>) -> Result<(), NoMemory>
+    ensures { OnOk result (out.new.items ≡ out.old.items ++ closing_lines head.now) }
 {
     put_items::<Contact, ContactLine>(head.contact.as_slice(), out)?;
     put_items::<Field, FieldLine>(head.others.as_slice(), out)?;

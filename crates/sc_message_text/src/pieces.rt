@@ -3,18 +3,19 @@
 ghost use Rattle.std.specs.Prelude.{◌≡◌, ◌++◌, OnOk};
 ghost use Rattle.sc_grammar.specs.Written.{crlf, version};
 
-use sc_value::{NoMemory, Text};
+use sc_uri_text::Growing;
+use sc_value::NoMemory;
 
 #[tactic(auto, unfolding(sc_grammar::specs::Written::crlf))]
-pub fn put_line_end(out: &mut Text) -> Result<(), NoMemory>
-    ensures { OnOk result (out.new ≡ out.old ++ crlf) }
+pub fn put_line_end<G: Growing>(out: &mut G) -> Result<(), NoMemory>
+    ensures { OnOk result (G.bytes out.new ≡ G.bytes out.old ++ crlf) }
 {
-    out.append(b"\r\n")
+    out.put_bytes(b"\r\n")
 }
 
 #[tactic(auto, unfolding(sc_grammar::specs::Written::version))]
-pub fn put_version(out: &mut Text) -> Result<(), NoMemory>
-    ensures { OnOk result (out.new ≡ out.old ++ version) }
+pub fn put_version<G: Growing>(out: &mut G) -> Result<(), NoMemory>
+    ensures { OnOk result (G.bytes out.new ≡ G.bytes out.old ++ version) }
 {
-    out.append(b"SIP/2.0")
+    out.put_bytes(b"SIP/2.0")
 }

@@ -3,6 +3,7 @@
 
 mod classes;
 mod copies;
+mod growing;
 mod hosts;
 mod params;
 mod pieces;
@@ -12,6 +13,7 @@ mod sent;
 mod writing;
 
 pub use copies::{copy_of, shared_copy_of};
+pub use growing::{Growing, put_number};
 pub use hosts::is_host;
 pub use pieces::{put_byte, put_ended, put_port, put_signed};
 pub use reading::read;
