@@ -2,4 +2,5 @@ mod EndSteps
 mod FinishSteps
 mod FoldSteps
 mod HeadSteps
+mod NameSteps
 mod WholeSteps

@@ -1,7 +1,10 @@
 //! The names of the headers (RFC 3261 section 20).
 
-ghost use Rattle.std.specs.Prelude.{◌≡◌};
+ghost use Rattle.std.specs.Prelude.{◌≡◌, IfSome};
 ghost use Rattle.sc_tokens.specs.HeaderNames.{call_id_name, contact_name, content_length_name, cseq_name, from_name, max_forwards_name, record_route_name, route_name, to_name, via_name};
+ghost use Rattle.sc_message_text.specs.UsualNames.{IsUsual};
+
+use sc_syntax::Header;
 
 /// `Via` (RFC 3261 section 20.42).
 #[tactic(auto, unfolding(sc_tokens::specs::HeaderNames::via_name))]
@@ -81,4 +84,25 @@ pub fn content_length_name() -> &'static [u8]
     ensures { result.now ≡ content_length_name }
 {
     b"Content-Length"
+}
+
+// The header that has this name, letter for letter, as most senders write it: such a name needs no
+// other test. None says nothing of the name.
+#[tactic(auto, unfolding(sc_tokens::specs::HeaderNames::via_name, sc_tokens::specs::HeaderNames::route_name, sc_tokens::specs::HeaderNames::record_route_name, sc_tokens::specs::HeaderNames::contact_name, sc_tokens::specs::HeaderNames::from_name, sc_tokens::specs::HeaderNames::to_name, sc_tokens::specs::HeaderNames::call_id_name, sc_tokens::specs::HeaderNames::cseq_name, sc_tokens::specs::HeaderNames::max_forwards_name, sc_tokens::specs::HeaderNames::content_length_name))]
+pub fn usual_header(name: &[u8]) -> Option<Header>
+    ensures { IfSome result (λ header. IsUsual header name.now) }
+{
+    match name {
+        b"Via" => Some(Header::Via),
+        b"Route" => Some(Header::Route),
+        b"Record-Route" => Some(Header::RecordRoute),
+        b"Contact" => Some(Header::Contact),
+        b"From" => Some(Header::From),
+        b"To" => Some(Header::To),
+        b"Call-ID" => Some(Header::CallId),
+        b"CSeq" => Some(Header::CSeq),
+        b"Max-Forwards" => Some(Header::MaxForwards),
+        b"Content-Length" => Some(Header::ContentLength),
+        _ => None,
+    }
 }

@@ -11,6 +11,7 @@ ghost use Rattle.sc_syntax.specs.declared.left.Header.TheVariants as headers;
 ghost use Rattle.sc_syntax.specs.Sequences.{cseq_of, hops_of};
 ghost use Rattle.sc_syntax.specs.Vias.{vias_of};
 ghost use Rattle.sc_message_text.specs.Answers.{Takes};
+ghost use Rattle.sc_message_text.specs.UsualNames.{IsUsual};
 
 use crate::refused::LineRefused;
 use crate::{keeping, names};
@@ -35,8 +36,38 @@ pub fn take_line(left: &mut Left, alloc: Global, line: &[u8]) -> Result<(), Line
 }
 
 // A name, which may be compact, and what stands behind its colon.
-#[tactic(auto, unfolding(sc_syntax::specs::Judging::with_named_header), using(sc_syntax::proofs::NameLaws::long_token, sc_syntax::proofs::NameLaws::long_again, sc_syntax::proofs::ValueLaws::ends_taken))]
 fn take_named(left: &mut Left, alloc: Global, name: &[u8], value: &[u8]) -> Result<(), LineRefused>
+    ensures { Takes result left.new (with_named_header left.old name.now value.now) }
+{
+    match names::usual_header(name) {
+        Some(header) => take_usual(left, alloc, name, header, value),
+        None => take_spelled(left, alloc, name, value),
+    }
+}
+
+// The same, where the name is the long one of this header, letter for letter.
+#[tactic(auto, using(crate::proofs::NameSteps::usual_token, crate::proofs::NameSteps::usual_long, crate::proofs::NameSteps::usual_named, crate::proofs::NameSteps::usual_taken, sc_syntax::proofs::ValueLaws::ends_taken))]
+fn take_usual(
+    left: &mut Left,
+    alloc: Global,
+    name: &[u8],
+    header: Header,
+    value: &[u8],
+) -> Result<(), LineRefused>
+    requires { IsUsual header name.now }
+    ensures { Takes result left.new (with_named_header left.old name.now value.now) }
+{
+    take_value(left, alloc, name, header, trim(value))
+}
+
+// The same, where the name is spelled in another way, or is that of another header.
+#[tactic(auto, unfolding(sc_syntax::specs::Judging::with_named_header), using(sc_syntax::proofs::NameLaws::long_token, sc_syntax::proofs::NameLaws::long_again, sc_syntax::proofs::ValueLaws::ends_taken))]
+fn take_spelled(
+    left: &mut Left,
+    alloc: Global,
+    name: &[u8],
+    value: &[u8],
+) -> Result<(), LineRefused>
     ensures { Takes result left.new (with_named_header left.old name.now value.now) }
 {
     if !is_token(name) {
