@@ -59,7 +59,7 @@ from_not : (b : Bool) → ¬ (b ≡ true) → b ≡ false
 from_not true h = absurd (h refl)
 from_not false h = refl
 
-map_none : (o : Option ℕ) → option_map (λ n. 0 + n) o ≡ o
+pub map_none : (o : Option ℕ) → option_map (λ n. 0 + n) o ≡ o
 map_none None = refl
 map_none (Some n) = let same : ◌≡◌ {A = ℕ} (0 + n) n = omega arith in ap Some same
 
@@ -67,7 +67,7 @@ map_none (Some n) = let same : ◌≡◌ {A = ℕ} (0 + n) n = omega arith in ap
 abbrev pub HasNoneIn : Bytes → ℕ → Type 0
 HasNoneIn text k = (j : ℕ) → j < k → ¬ ((get_or text j 0 == 13) ≡ true)
 
-end_past : (ending : Ending) (text : Bytes) (k : ℕ) → k ≤ length text → HasNoneIn text k → end_of ending text ≡ end_from ending k text
+pub end_past : (ending : Ending) (text : Bytes) (k : ℕ) → k ≤ length text → HasNoneIn text k → end_of ending text ≡ end_from ending k text
 end_past ending text zero within none = sym (map_none (end_of ending text))
 end_past ending [] (suc k) within none = absurd (omega (arith, within))
 end_past ending (b ∷ bs) (suc k) within none =

@@ -30,9 +30,9 @@ fn begins_blank(text: &[u8]) -> bool
     }
 }
 
-// Whether such an end stands at the front.
+/// Whether such an end stands at the front.
 #[tactic(auto, unfolding(sc_syntax::specs::Lines::is_end))]
-fn is_end(ending: Ending, text: &[u8]) -> bool
+pub fn is_end(ending: Ending, text: &[u8]) -> bool
     ensures exact { result ≡ is_end ending text.now }
     ensures within { IsTrue result → 2 ≤ length text.now }
     ensures whole { IsTrue result → ending ≡ Empty → 4 ≤ length text.now }

@@ -1,18 +1,20 @@
 //! The header lines of a message, one after the other (RFC 3261 section 7.3).
 
-ghost use Rattle.std.specs.Prelude.{◌≡◌, ◌≤◌, ◌+◌, ◌^◌, length};
+ghost use Rattle.std.specs.Prelude.{◌≡◌, ◌≤◌, ◌+◌, ◌^◌, ◌∷◌, Some, None, IfSome, IsTrue, length, take};
 ghost use Rattle.std.specs.Option.{option_copied, option_map_or};
-ghost use Rattle.sc_syntax.specs.declared.ending.Ending.TheVariants.{Unfolded};
+ghost use Rattle.sc_syntax.specs.declared.ending.Ending.TheVariants.{Any, Unfolded};
 ghost use Rattle.sc_syntax.specs.Folds.{text_without_folds};
 ghost use Rattle.sc_syntax.specs.Judging.{left_with_line};
+ghost use Rattle.sc_syntax.specs.Lines.{end_of, pieces_at};
 ghost use Rattle.sc_syntax.specs.Messages.{all_judged, fault_at_place, no_lists, no_singles, nothing_left as nothing};
 ghost use Rattle.sc_message_text.specs.Answers.{Takes, TakesAll, placed_refusal};
 ghost use Rattle.sc_message_text.specs.Pieces.{pieces_behind};
 
-use crate::ends::{end_of, split_piece};
+use crate::ends::{end_of, is_end, split_piece};
 use crate::folds::join;
 use crate::refused::{LineRefused, MessageRefused};
 use crate::taking::take_line;
+use memchr::memchr;
 use sc_syntax::{Ending, Left, Lists, Singles};
 use sc_value::{List, Others};
 use std::alloc::Global;
@@ -61,8 +63,8 @@ pub fn take_lines(
             Some(text) => text,
             None => return Ok(()),
         };
-        let (line, more) = split_piece(Ending::Unfolded, text);
-        match take_placed(left, alloc, line, place) {
+        let (line, more, plain) = split_line(text);
+        match take_placed(left, alloc, line, plain, place) {
             Ok(done) => done,
             Err(refused) => return Err(refused),
         }
@@ -71,13 +73,59 @@ pub fn take_lines(
     }
 }
 
+// The first header line, what stands behind its end, where there is one, and whether it is known to
+// have no fold.
+fn split_line(text: &[u8]) -> (&[u8], Option<&[u8]>, bool)
+    ensures exact { pieces_at Unfolded text.now
+        ≡ result.0.now ∷ pieces_behind Unfolded (option_copied result.1) }
+    ensures within { length result.0.now ≤ length text.now }
+    ensures less { IfSome result.1
+        (λ rest. length result.0.now + 2 + length rest.now ≡ length text.now) }
+    ensures plain { IsTrue result.2 → end_of Any result.0.now ≡ None }
+{
+    match plain_end(text) {
+        Some(end) => (&text[..end], Some(&text[end + 2..]), true),
+        None => {
+            let (line, more) = split_piece(Ending::Unfolded, text);
+            (line, more, false)
+        }
+    }
+}
+
+// The end of the first header line, where the first CR of the text begins it, as in most lines. None
+// says nothing of the line.
+#[tactic(auto, using(crate::proofs::LineSteps::ends_there, crate::proofs::LineSteps::none_before))]
+fn plain_end(text: &[u8]) -> Option<usize>
+    ensures exact { IfSome result (λ end. end_of Unfolded text.now ≡ Some end) }
+    ensures plain { IfSome result (λ end. end_of Any (take end text.now) ≡ None) }
+    ensures within { IfSome result (λ end. end + 2 ≤ length text.now) }
+{
+    match memchr(b'\r', text) {
+        Some(end) => {
+            if is_end(Ending::Unfolded, &text[end..]) {
+                Some(end)
+            } else {
+                None
+            }
+        }
+        None => None,
+    }
+}
+
 // A header line, which begins at this place.
 #[tactic(auto, unfolding(sc_syntax::specs::Messages::fault_at_place), using(crate::proofs::HeadSteps::refusal_placed))]
-fn take_placed(left: &mut Left, alloc: Global, line: &[u8], at: usize) -> Result<(), MessageRefused>
+fn take_placed(
+    left: &mut Left,
+    alloc: Global,
+    line: &[u8],
+    plain: bool,
+    at: usize,
+) -> Result<(), MessageRefused>
+    requires { IsTrue plain → end_of Any line.now ≡ None }
     ensures { TakesAll result left.new
         (fault_at_place at (left_with_line left.old (text_without_folds line.now))) }
 {
-    match take_folded(left, alloc, line) {
+    match take_folded(left, alloc, line, plain) {
         Ok(()) => Ok(()),
         Err(refused) => Err(refused_at(at, refused)),
     }
@@ -85,10 +133,11 @@ fn take_placed(left: &mut Left, alloc: Global, line: &[u8], at: usize) -> Result
 
 // A header line, whose folds are joined first.
 #[tactic(auto, using(crate::proofs::FoldSteps::joined_plain))]
-fn take_folded(left: &mut Left, alloc: Global, line: &[u8]) -> Result<(), LineRefused>
+fn take_folded(left: &mut Left, alloc: Global, line: &[u8], plain: bool) -> Result<(), LineRefused>
+    requires { IsTrue plain → end_of Any line.now ≡ None }
     ensures { Takes result left.new (left_with_line left.old (text_without_folds line.now)) }
 {
-    if end_of(Ending::Any, line).is_none() {
+    if plain || end_of(Ending::Any, line).is_none() {
         return take_line(left, alloc, line);
     }
     let text = join(alloc, line)?;

@@ -14,13 +14,13 @@ returns-in-None c =
 
 pub returns-in-Err : goal.returns-in-Err
 returns-in-Err c =
-    line_refused c.loop-rest.place c.in-Err.refused c.loop-rest.left c.split_piece.result.0.now (pieces_behind Unfolded (option_copied c.loop-rest.rest)) (pieces_behind Unfolded (option_copied c.split_piece.result.1))
+    line_refused c.loop-rest.place c.in-Err.refused c.loop-rest.left c.split_line-plain.result.0.now (pieces_behind Unfolded (option_copied c.loop-rest.rest)) (pieces_behind Unfolded (option_copied c.split_line-plain.result.1))
     (all_judged c.args.at c.args.left.now (pieces_behind Unfolded (option_copied c.args.rest)))
-    (ap (λ o. pieces_behind Unfolded (option_copied o)) c.in-Some.is ∙ behind_some Unfolded c.in-Some.text.now ∙ c.split_piece.ensures.exact) c.in-Err.ensures c.loop-rest.invariant.0
+    (ap (λ o. pieces_behind Unfolded (option_copied o)) c.in-Some.is ∙ behind_some Unfolded c.in-Some.text.now ∙ c.split_line-plain.ensures.exact) c.in-Err.ensures c.loop-rest.invariant.0
 
 pub loop-rest-preserved : goal.loop-rest-preserved
 loop-rest-preserved c = (
-  line_taken c.loop-rest.place c.loop-rest.left c.take_placed.new.left c.split_piece.result.0.now (pieces_behind Unfolded (option_copied c.loop-rest.rest)) (pieces_behind Unfolded (option_copied c.split_piece.result.1))
-      (ap (λ o. pieces_behind Unfolded (option_copied o)) c.in-Some.is ∙ behind_some Unfolded c.in-Some.text.now ∙ c.split_piece.ensures.exact) c.in-Ok.ensures ∙ c.loop-rest.invariant.0,
-  room_on c.loop-rest.place (length c.split_piece.result.0.now) (length c.in-Some.text.now) c.split_piece.result.1 (room_of c.loop-rest.place c.loop-rest.rest c.in-Some.text c.in-Some.is c.loop-rest.invariant.1) c.split_piece.ensures.less,
+  line_taken c.loop-rest.place c.loop-rest.left c.take_placed.new.left c.split_line-plain.result.0.now (pieces_behind Unfolded (option_copied c.loop-rest.rest)) (pieces_behind Unfolded (option_copied c.split_line-plain.result.1))
+      (ap (λ o. pieces_behind Unfolded (option_copied o)) c.in-Some.is ∙ behind_some Unfolded c.in-Some.text.now ∙ c.split_line-plain.ensures.exact) c.in-Ok.ensures ∙ c.loop-rest.invariant.0,
+  room_on c.loop-rest.place (length c.split_line-plain.result.0.now) (length c.in-Some.text.now) c.split_line-plain.result.1 (room_of c.loop-rest.place c.loop-rest.rest c.in-Some.text c.in-Some.is c.loop-rest.invariant.1) c.split_line-plain.ensures.less,
 )
