@@ -11,4 +11,4 @@ mod turns;
 
 pub use parting::goodbye;
 pub use readiness::is_ready;
-pub use turns::{outcome, outcome_from};
+pub use turns::{Made, outcome, outcome_from};

@@ -12,9 +12,24 @@ use sc_acting::all_act;
 use sc_prepare::{has_expired, prepared};
 use sc_state::{Outcome, Prepared, Queued, Session, Waiting, Working};
 use sc_terms::{CallRecord, Config, End};
-use sc_value::{NoMemory, ReqId};
+use sc_value::{AppId, NoMemory, ReqId};
 use sc_work::worked_all;
 use std::alloc::Global;
+
+/// A turn that was made, as its step has it.
+#[derive(Clone, Copy)]
+pub struct Made<'a> {
+    /// The application session that took it.
+    pub app: AppId,
+    /// The number of its event.
+    pub event: u64,
+    /// Its moment, in milliseconds.
+    pub moment: u64,
+    /// The calls in their order, each with its answer.
+    pub calls: &'a [CallRecord],
+    /// How it ended.
+    pub end: End,
+}
 
 /// What follows the calls: drafts that were left, the answer to a fault, proxies, and a later
 /// request that is passed on.
@@ -111,14 +126,14 @@ pub fn outcome_from(
     config: &Config,
     shown: Prepared,
     waiting: &Waiting,
-    made: &[CallRecord],
-    end: End,
+    made: &Made<'_>,
 ) -> Result<Outcome, NoMemory>
-    ensures { IfOk result (λ o. o ≡ outcome_from config.now shown waiting.now made.now end) }
+    ensures { IfOk result
+        (λ o. o ≡ outcome_from config.now shown waiting.now made.now.calls.now made.now.end) }
 {
     let req = shown.req;
-    let mut working = worked_all(alloc, config, shown, made)?;
-    finished(alloc, config, &waiting.event, req, end, &mut working)?;
+    let mut working = worked_all(alloc, config, shown, made.calls)?;
+    finished(alloc, config, &waiting.event, req, made.end, &mut working)?;
     outcome_of(alloc, &waiting.event, working)
 }
 
@@ -131,13 +146,14 @@ pub fn outcome(
     ringing: &[u64],
     session: Session,
     waiting: &Waiting,
-    now: u64,
-    made: &[CallRecord],
-    end: End,
+    made: &Made<'_>,
 ) -> Result<Outcome, NoMemory>
     ensures { IfOk result
-        (λ o. o ≡ outcome config.now ringing.now session waiting.now now made.now end) }
+        (λ o.
+        o
+        ≡ outcome config.now ringing.now session waiting.now made.now.moment made.now.calls.now
+        made.now.end) }
 {
-    let shown = prepared(alloc, config, ringing, session, waiting, now)?;
-    outcome_from(alloc, config, shown, waiting, made, end)
+    let shown = prepared(alloc, config, ringing, session, waiting, made.moment)?;
+    outcome_from(alloc, config, shown, waiting, made)
 }

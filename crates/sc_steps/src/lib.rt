@@ -10,4 +10,5 @@ mod turning;
 mod waking;
 
 pub use lives::{live_at, ringing_at};
+pub use sc_finish::Made;
 pub use stepping::{after_begun, after_step};

@@ -12,12 +12,13 @@ ghost use Rattle.sc_steps.specs.TurnParts.{Begins};
 use crate::endings::withdrawn;
 use crate::turning::turns;
 use sc_arrivals::{answer_bad, arrived};
+use sc_finish::Made;
 use sc_net::delivered;
 use sc_parts::Setup;
 use sc_state::{Net, Prepared, Session};
-use sc_terms::{Bad, CallRecord, Config, End, Step};
+use sc_terms::{Bad, Config, Step};
 use sc_ticks::{lost, ticked};
-use sc_value::{AppId, Boxed, List, NoMemory, Place};
+use sc_value::{Boxed, List, NoMemory, Place};
 use std::alloc::Global;
 
 fn nothing_sent(alloc: Global, net: &mut Net<Session>)
@@ -59,11 +60,20 @@ fn stepped(
         Step::Tick(now) => ticked(alloc, &setup.config, *now, net),
         Step::Turn {
             app,
+            event,
             now,
             calls,
             end,
-            ..
-        } => turns(alloc, setup, *app, None, *now, calls.as_slice(), *end, net),
+        } => {
+            let made = Made {
+                app: *app,
+                event: *event,
+                moment: *now,
+                calls: calls.as_slice(),
+                end: *end,
+            };
+            turns(alloc, setup, None, &made, net)
+        }
         Step::Withdraw(app) => withdrawn(alloc, setup, *app, net),
     }
 }
@@ -84,29 +94,26 @@ pub fn after_step(
     delivered(alloc, setup, net)
 }
 
-/// What a turn of an event makes of a net, as `after_step`; it may be known already what the turn
+/// What a turn that was made makes of a net, as `after_step`; it may be known already what the turn
 /// begins with.
 #[tactic(auto, unfolding(sc_hosts::specs::Runs::after_step, sc_hosts::specs::Steps::before_delivery))]
 pub fn after_begun(
     alloc: Global,
     setup: &Setup,
-    app: AppId,
-    event: u64,
     begun: Option<Boxed<Prepared>>,
-    now: u64,
-    made: &[CallRecord],
-    end: End,
+    made: &Made<'_>,
     net: &mut Net<Session>,
 ) -> Result<(), NoMemory>
     requires { IfSome begun
         (λ shown.
-        Begins setup.now.config (ringing_at app (host_at app.host net.old)) (live_at app net.old)
-        now shown) }
+        Begins setup.now.config (ringing_at made.now.app (host_at made.now.app.host net.old))
+        (live_at made.now.app net.old) made.now.moment shown) }
     ensures { OnOk result
-        (net.new ≡ after_step as_session setup.now net.old (Step.Turn end app event now made.now)) }
+        (net.new
+        ≡ after_step as_session setup.now net.old
+        (Step.Turn made.now.end made.now.app made.now.event made.now.moment made.now.calls.now)) }
 {
-    let _ = event;
     nothing_sent(alloc, net);
-    turns(alloc, setup, app, begun, now, made, end, net)?;
+    turns(alloc, setup, begun, made, net)?;
     delivered(alloc, setup, net)
 }

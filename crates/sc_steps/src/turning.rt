@@ -11,11 +11,11 @@ ghost use Rattle.sc_steps.specs.TurnParts.{Begins, FirstBegins, turned_by, first
 use crate::leaving::net_after;
 use crate::lives::{live_copy, ringing_at};
 use crate::waking::closed_turn;
-use sc_finish::{outcome, outcome_from};
+use sc_finish::{Made, outcome, outcome_from};
 use sc_net::obeyed;
 use sc_parts::Setup;
 use sc_state::{Live, Net, Outcome, Prepared, Session, Waiting};
-use sc_terms::{CallRecord, Config, End};
+use sc_terms::Config;
 use sc_value::{AppId, Boxed, CloneIn, NoMemory, Shared};
 use std::alloc::Global;
 
@@ -46,32 +46,21 @@ fn turned(
 fn outcome_by(
     alloc: Global,
     config: &Config,
-    app: AppId,
     session: &Session,
     waiting: &Waiting,
-    now: u64,
-    made: &[CallRecord],
-    end: End,
+    made: &Made<'_>,
     net: &Net<Session>,
 ) -> Result<Outcome, NoMemory>
     ensures { IfOk result
         (λ done.
         done
         ≡ outcome_by as_session config.now session.now
-        (turn_of net.now app waiting.now now made.now end)) }
+        (turn_of net.now made.now.app waiting.now made.now.moment made.now.calls.now
+        made.now.end)) }
 {
-    let ringing = ringing_at(alloc, app, net)?;
+    let ringing = ringing_at(alloc, made.app, net)?;
     let session = session.clone_in(alloc)?;
-    outcome(
-        alloc,
-        config,
-        ringing.as_slice(),
-        session,
-        waiting,
-        now,
-        made,
-        end,
-    )
+    outcome(alloc, config, ringing.as_slice(), session, waiting, made)
 }
 
 // The same, where it may be known already what the turn begins with.
@@ -79,28 +68,27 @@ fn outcome_by(
 fn outcome_begun(
     alloc: Global,
     config: &Config,
-    app: AppId,
     begun: Option<Boxed<Prepared>>,
     session: &Session,
     waiting: &Waiting,
-    now: u64,
-    made: &[CallRecord],
-    end: End,
+    made: &Made<'_>,
     net: &Net<Session>,
 ) -> Result<Outcome, NoMemory>
     requires { IfSome begun
         (λ shown.
-        prepared_session config.now (ringing_at app (host_at app.host net.now)) session.now waiting.now
-        now ≡ shown) }
+        prepared_session config.now (ringing_at made.now.app (host_at made.now.app.host net.now))
+        session.now waiting.now made.now.moment
+        ≡ shown) }
     ensures { IfOk result
         (λ done.
         done
         ≡ outcome_by as_session config.now session.now
-        (turn_of net.now app waiting.now now made.now end)) }
+        (turn_of net.now made.now.app waiting.now made.now.moment made.now.calls.now
+        made.now.end)) }
 {
     match begun {
-        Some(shown) => outcome_from(alloc, config, shown.into_inner(), waiting, made, end),
-        None => outcome_by(alloc, config, app, session, waiting, now, made, end, net),
+        Some(shown) => outcome_from(alloc, config, shown.into_inner(), waiting, made),
+        None => outcome_by(alloc, config, session, waiting, made, net),
     }
 }
 
@@ -112,39 +100,26 @@ fn let_go(begun: Option<Boxed<Prepared>>) {
 fn first_by(
     alloc: Global,
     setup: &Setup,
-    app: AppId,
     begun: Option<Boxed<Prepared>>,
     session: &Session,
     waiting: Option<&Waiting>,
-    now: u64,
-    made: &[CallRecord],
-    end: End,
+    made: &Made<'_>,
     net: &mut Net<Session>,
 ) -> Result<(), NoMemory>
     requires { IfSome begun
         (λ shown.
-        FirstBegins setup.now.config (ringing_at app (host_at app.host net.old)) session.now
-        (option_copied waiting) now shown) }
+        FirstBegins setup.now.config
+        (ringing_at made.now.app (host_at made.now.app.host net.old)) session.now
+        (option_copied waiting) made.now.moment shown) }
     ensures { OnOk result
         (net.new
-        ≡ first_by setup.now app session.now (option_copied waiting.entry) now made.now end
-        net.old) }
+        ≡ first_by setup.now made.now.app session.now (option_copied waiting.entry)
+        made.now.moment made.now.calls.now made.now.end net.old) }
 {
     match waiting {
         Some(waiting) => {
-            let done = outcome_begun(
-                alloc,
-                &setup.config,
-                app,
-                begun,
-                session,
-                waiting,
-                now,
-                made,
-                end,
-                net,
-            )?;
-            turned(alloc, setup, app, done, net)
+            let done = outcome_begun(alloc, &setup.config, begun, session, waiting, made, net)?;
+            turned(alloc, setup, made.app, done, net)
         }
         None => {
             let_go(begun);
@@ -157,18 +132,19 @@ fn first_by(
 fn turns_by(
     alloc: Global,
     setup: &Setup,
-    app: AppId,
     begun: Option<Boxed<Prepared>>,
     live: &Option<Shared<Live<Session>>>,
-    now: u64,
-    made: &[CallRecord],
-    end: End,
+    made: &Made<'_>,
     net: &mut Net<Session>,
 ) -> Result<(), NoMemory>
     requires { IfSome begun
         (λ shown.
-        Begins setup.now.config (ringing_at app (host_at app.host net.old)) live.now now shown) }
-    ensures { OnOk result (net.new ≡ turns_by setup.now app live.now now made.now end net.old) }
+        Begins setup.now.config (ringing_at made.now.app (host_at made.now.app.host net.old))
+        live.now made.now.moment shown) }
+    ensures { OnOk result
+        (net.new
+        ≡ turns_by setup.now made.now.app live.now made.now.moment made.now.calls.now made.now.end
+        net.old) }
 {
     match live {
         Some(live) => {
@@ -176,13 +152,10 @@ fn turns_by(
             first_by(
                 alloc,
                 setup,
-                app,
                 begun,
                 live.session.get(),
                 live.inbox.as_slice().get(0),
-                now,
                 made,
-                end,
                 net,
             )
         }
@@ -199,22 +172,21 @@ fn turns_by(
 pub fn turns(
     alloc: Global,
     setup: &Setup,
-    app: AppId,
     begun: Option<Boxed<Prepared>>,
-    now: u64,
-    made: &[CallRecord],
-    end: End,
+    made: &Made<'_>,
     net: &mut Net<Session>,
 ) -> Result<(), NoMemory>
     requires { IfSome begun
         (λ shown.
-        Begins setup.now.config (ringing_at app (host_at app.host net.old)) (live_at app net.old)
-        now shown) }
+        Begins setup.now.config (ringing_at made.now.app (host_at made.now.app.host net.old))
+        (live_at made.now.app net.old) made.now.moment shown) }
     ensures { OnOk result
-        (net.new ≡ turns as_session setup.now app (live_at app net.old) now made.now end net.old) }
+        (net.new
+        ≡ turns as_session setup.now made.now.app (live_at made.now.app net.old) made.now.moment
+        made.now.calls.now made.now.end net.old) }
 {
-    match live_copy(alloc, app, net) {
-        Ok(live) => turns_by(alloc, setup, app, begun, &live, now, made, end, net),
+    match live_copy(alloc, made.app, net) {
+        Ok(live) => turns_by(alloc, setup, begun, &live, made, net),
         Err(NoMemory) => {
             let_go(begun);
             Err(NoMemory)

@@ -1,5 +1,5 @@
 -- What a turn begins with: but for the timer of a branch, the session and its event alone tell it.
-use Rattle.std.proofs.Common.{◌≡◌, ℕ, Bool, true, false, Option, None, Some, List, refl, sym, ◌∙◌, subst, slice_get}
+use Rattle.std.proofs.Common.{◌≡◌, ℕ, Bool, true, false, Option, None, Some, List, [], refl, sym, ◌∙◌, subst, slice_get}
 use Rattle.std.specs.Prelude.{Result, Ok, Err, IfOk, IfSome}
 use Rattle.sc_value.specs.declared.ids.AppId.{AppId}
 use Rattle.sc_terms.specs.declared.settings.Config.{Config}
@@ -64,6 +64,12 @@ pub begun_here : (config : Config) (ringing : List ℕ) (net : Net Session) (app
 unfolding BeginsAnyhow
 begun_here config ringing net app now None is = tt
 begun_here config ringing net app now (Some begun) is = is config ringing
+
+-- so is it of a copy of the net with nothing sent
+pub begun_copy : (net copy : Net Session) (app : AppId) (now : ℕ) (o : Option Prepared) → copy ≡ record net { sent = [] } → IfSome o (λ begun. BeginsAnyhow net app now begun) → IfSome o (λ begun. BeginsAnyhow copy app now begun)
+unfolding BeginsAnyhow
+begun_copy net copy app now None same is = tt
+begun_copy net copy app now (Some begun) same is = λ config ringing. rw same (is config ringing)
 
 -- what is kept is handed out for its session and its moment
 pub begun_of : (net : Net Session) (app : AppId) (now : ℕ) (begun : Begun) (o : Option Prepared) → IsBegun net (Some begun) → IfSome o (λ shown. begun ≡ record { app = app; now = now; shown = shown }) → IfSome o (λ shown. BeginsAnyhow net app now shown)

@@ -22,7 +22,10 @@ use Rattle.sc_model.specs.Settings.{Charters, IsSetup, app_of, charters_of}
 use Rattle.sc_hosts.specs.Histories.{as_session}
 use Rattle.sc_hosts.specs.Runs.{AllowedBy, IsAllowed, MayTurn, prepared_turn as shown}
 use Rattle.sc_hosts.specs.Steps.{live_at}
+use Rattle.sc_switch.specs.declared.brought.Taken.{Taken}
+use Rattle.sc_switch.specs.declared.brought.Taken.TheVariants as takes
 use Rattle.sc_switch.specs.Standing.{AreKept, Fits, Known, listener_of, net_of, servlet_of, step_of}
+use Rattle.sc_switch.specs.Stepping.{MayBeTaken, taken_step}
 use Rattle.sc_leases.proofs.KeptLeases.{kept-shows}
 use Rattle.sc_leases.specs.Leases.{IsLeaseOf, IsShown, IsTimely, ShowsFirst, ShowsOf}
 
@@ -98,3 +101,9 @@ fits_allowed setup net kept done right shows fits fed = by-live setup net done (
 pub kept_allowed : (known : Known) (done : Done) → IsSetup known.setup → AreKept known → Fits known.setup known.kept done → (done.end ≡ ends.Starved → ⊥) → IsAllowed as_session known.setup (net_of known) (step_of done)
 kept_allowed known done right are fits fed =
     fits_allowed known.setup (net_of known) known.kept done right (kept-shows as_session known.setup (net_of known) known.kept 0 known.leases done.lease.number done.lease are fits.lease_is) fits fed
+
+-- what may be taken is allowed
+pub taken_allowed : (known : Known) (taken : Taken) → IsSetup known.setup → AreKept known → MayBeTaken known taken → IsAllowed as_session known.setup (net_of known) (taken_step taken)
+unfolding MayBeTaken taken_step
+taken_allowed known (takes.Step step) right are may = may
+taken_allowed known (takes.Turn done) right are may = kept_allowed known done right are may.0 may.1

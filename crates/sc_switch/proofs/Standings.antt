@@ -1,7 +1,6 @@
 -- A switch stands for its journal: at first, after one more step, and as messages are taken from it.
 use Rattle.std.proofs.Common.{◌≡◌, ℕ, ◌+◌, ◌<◌, ◌≤◌, ◌⊎◌, false, Option, List, [], ◌∷◌, ◌++◌, length, map, min, refl, sym, ap, ◌∙◌, subst, arith, length-append, append_assoc, inl, inr}
-use Rattle.std.specs.Prelude.{option_to_list, sum_by, Result, Ok, Err, OnOk, OnErr, IfErr, IsErr}
-use Rattle.std.proofs.lemmas.Bool.{false≢true}
+use Rattle.std.specs.Prelude.{option_to_list, sum_by}
 use Rattle.std.proofs.lemmas.List.{append-nil}
 use Rattle.std.proofs.lemmas.List.Sums.{fold-append, sum_by-append, sum_by-cons}
 use Rattle.sc_value.specs.declared.message.Sent.{Sent}
@@ -19,6 +18,8 @@ use Rattle.sc_model.specs.Settings.{IsSetup}
 use Rattle.sc_hosts.specs.Histories.{as_session}
 use Rattle.sc_hosts.specs.Runs.{IsAllowed, IsLawful, IsLawfulFrom, after_step, all_sent, all_sent_from, net_from as chained, chained_from, live_count, quiet_host, start, waiting_count}
 use Rattle.sc_hosts.proofs.RunLaws.{sent-of-beginning}
+use Rattle.sc_switch.specs.declared.brought.Taken.{Taken}
+use Rattle.sc_switch.specs.declared.brought.Taken.TheVariants as takes
 use Rattle.sc_switch.specs.declared.refused.StepRefused.{StepRefused}
 use Rattle.sc_switch.specs.declared.refused.StepRefused.TheVariants as refused
 use Rattle.sc_switch.specs.declared.stepping.Stepped.{Stepped}
@@ -26,7 +27,7 @@ use Rattle.sc_switch.specs.Standing.{AreKept, Fits, Known, net_of, whole, IsAllS
 use Rattle.sc_switch.specs.Stepping.{HasRoom, IsStepped, Refuses}
 use Rattle.sc_switch.specs.Answers.{RefusesRight, RefusesTurn, with_step}
 use Rattle.sc_leases.proofs.KeptLeases.{kept-after, kept-given, kept-without}
-use Rattle.sc_leases.specs.Leases.{AreLeases, IsLeaseOf, is_leased, kept_after, without_app, without_number}
+use Rattle.sc_leases.specs.Leases.{AreLeases, IsLeaseOf, is_leased, kept_after, without_number}
 
 -- ## One more step of a journal
 
@@ -64,7 +65,7 @@ size-step journal step =
     omega (arith, whole, last)
 
 -- what was sent before a step is no matter to it
-unsent : (setup : Setup) (run net : Net Session) (step : Step) → net ≡ record run { sent = [] } → after_step as_session setup net step ≡ after_step as_session setup run step
+pub unsent : (setup : Setup) (run net : Net Session) (step : Step) → net ≡ record run { sent = [] } → after_step as_session setup net step ≡ after_step as_session setup run step
 unfolding after_step
 unsent setup run net step e = rw e refl
 
@@ -264,42 +265,19 @@ pub IsSwitch-without : (known : Known) (journal : Kept Step) (before : ℕ) (net
 IsSwitch-without known journal before net live waiting number kept is kept_is =
     rw kept_is (with-leases known journal before net live waiting (without_number number known.kept) known.leases is (kept-without as_session known.setup (net_of known) known.kept 0 known.leases number is.leases_are))
 
--- ## A step that is told as taken or refused
-
-pub told_ok : {A : Type 0} (Q : Type 0) (taken : Result Unit A) (result : Result Unit StepRefused) → OnOk taken Q → OnOk result (taken ≡ Ok tt) → OnOk result Q
-told_ok Q taken (Ok a) done is = rw is at done
-told_ok Q taken (Err cause) done is = tt
-
-pub told_same : {A : Type 0} (Q : Type 0) (taken : Result Unit A) (result : Result Unit StepRefused) → OnErr taken Q → OnErr result (IsErr taken) → OnErr result Q
-told_same Q taken (Ok a) same is = tt
-told_same Q (Ok u) (Err cause) same is = absurd (false≢true is)
-told_same Q (Err u) (Err cause) same is = same
-
-pub told_refused : {A : Type 0} (cause-of : A → StepRefused) (P : StepRefused → Type 0) (taken : Result Unit A) (result : Result Unit StepRefused) → IfErr taken (λ u. P (cause-of u)) → IfErr result (λ cause. IfErr taken (λ u. cause-of u ≡ cause)) → OnErr result (IsErr taken)
-    → IfErr result P
-told_refused cause-of P taken (Ok a) refused is err = tt
-told_refused cause-of P (Ok u) (Err cause) refused is err = absurd (false≢true err)
-told_refused cause-of P (Err u) (Err cause) refused is err = subst P is refused
-
 -- ## A turn
 
 pub turn_size : (done : Done) (size : ℕ) → size ≡ min (sum_by record_size done.calls) 18446744073709551615 → size ≡ min (step_size (step_of done)) 18446744073709551615
 unfolding step_size step_of
 turn_size done size is = is
 
--- the lease of its session ends
-pub turn_ends : (done : Done) (kept after : List Lease) → after ≡ without_app done.lease.app kept → after ≡ kept_after (step_of done) kept
-unfolding step_of kept_after
-turn_ends done kept after is = is
+pub same_turn : (a b : Done) → takes.Turn a ≡ takes.Turn b → a ≡ b
+same_turn a b e = cc
 
-refuses-turn : (known : Known) (done : Done) (size : ℕ) (cause : StepRefused) → Fits known.setup known.kept done → RefusesRight known size cause → RefusesTurn known done size cause
+pub never_step : (taken : Taken) (done : Done) (step : Step) → taken ≡ takes.Turn done → taken ≡ takes.Step step → ⊥
+never_step taken done step turn is = cc
+
+pub refuses_turn : (known : Known) (done : Done) (size : ℕ) (cause : StepRefused) → Fits known.setup known.kept done → RefusesRight known size cause → RefusesTurn known done size cause
 unfolding RefusesTurn
-refuses-turn known done size (refused.JournalFull steps bytes) fits refuses = (refuses, fits)
-refuses-turn known done size refused.NoMemory fits refuses = tt
-
-pub refuses_turn : (known now : Known) (journal : Kept Step) (before : ℕ) (net : Net Session) (live waiting : ℕ) (done : Done) (size : ℕ) (cause : StepRefused)
-    → IsSwitch known journal before net live waiting → size ≡ min (sum_by record_size done.calls) 18446744073709551615 → Refuses journal size cause → known ≡ now → Fits now.setup now.kept done
-    → RefusesTurn now done (step_size (step_of done)) cause
-refuses_turn known now journal before net live waiting done size cause is size_is refuses same fits =
-    refuses-turn now done (step_size (step_of done)) cause fits
-    (subst (λ (k : Known). RefusesRight k (step_size (step_of done)) cause) same (refuses_right known journal before net live waiting (step_of done) size cause is (turn_size done size size_is) refuses))
+refuses_turn known done size (refused.JournalFull steps bytes) fits refuses = (refuses, fits)
+refuses_turn known done size refused.NoMemory fits refuses = tt

@@ -1,5 +1,6 @@
 -- What a step is to change, before it changes it.
 use Rattle.std.specs.Prelude.{◌≡◌, ◌<◌, ◌≤◌, ◌+◌, ◌⊎◌, ℕ, length, sum_by}
+use Rattle.sc_terms.specs.declared.calls.End.TheVariants as ends
 use Rattle.sc_terms.specs.declared.steps.Step.{Step}
 use Rattle.sc_parts.specs.declared.setup.Setup.{Setup}
 use Rattle.sc_journal.specs.Kept.{Kept}
@@ -7,11 +8,25 @@ use Rattle.sc_state.specs.Hosts.{Host}
 use Rattle.sc_state.specs.declared.net.Net.{Net}
 use Rattle.sc_state.specs.declared.session.Session.{Session}
 use Rattle.sc_hosts.specs.Histories.{as_session}
-use Rattle.sc_hosts.specs.Runs.{after_step}
+use Rattle.sc_hosts.specs.Runs.{IsAllowed, after_step}
+use Rattle.sc_switch.specs.declared.brought.Taken.{Taken}
+use Rattle.sc_switch.specs.declared.brought.Taken.TheVariants as takes
 use Rattle.sc_switch.specs.declared.refused.StepRefused.{StepRefused}
 use Rattle.sc_switch.specs.declared.refused.StepRefused.TheVariants as refused
 use Rattle.sc_switch.specs.declared.stepping.Stepped.{Stepped}
-use Rattle.sc_switch.specs.Standing.{IsNet}
+use Rattle.sc_switch.specs.Standing.{Fits, IsNet, Known, net_of, step_of}
+
+-- the step that is taken: it, or that of the turn
+unfoldable pub taken_step : Taken → Step
+taken_step (takes.Step step) = step
+taken_step (takes.Turn done) = step_of done
+
+-- it may be taken: a step that is allowed; a turn that is brought for a live lease, and that didn't
+-- end for want of memory
+unfoldable pub MayBeTaken : Known → Taken → Type 0
+MayBeTaken known (takes.Step step) = IsAllowed as_session known.setup (net_of known) step
+MayBeTaken known (takes.Turn done) =
+    Fits known.setup known.kept done × (done.end ≡ ends.Starved → ⊥)
 
 -- what the step makes of the net, which had nothing on its way outside
 pub record IsStepped (setup : Setup) (net : Net Session) (step : Step)

@@ -189,7 +189,7 @@ fn retain_of_others(app: AppId, kept: &mut Vec<Lease>)
 
 /// Ends the leases of a session.
 #[tactic(auto, unfolding(sc_leases::specs::Leases::without_app))]
-pub fn end_leases(app: AppId, kept: &mut List<Lease>)
+fn end_leases(app: AppId, kept: &mut List<Lease>)
     ensures { kept.new ≡ without_app app kept.old }
 {
     retain_of_others(app, &mut kept.items);

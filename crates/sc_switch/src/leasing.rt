@@ -29,6 +29,14 @@ pub struct Offered {
     pub begun: Option<Boxed<Prepared>>,
 }
 
+/// A live session of a net, and its first event.
+#[derive(Clone, Copy)]
+struct First<'a> {
+    app: AppId,
+    live: &'a Live<Session>,
+    waiting: &'a Waiting,
+}
+
 /// The application of a host.
 pub fn app_of(setup: &Setup, host: u32) -> Option<&AppEntry>
     ensures { option_copied result ≡ app_of setup.now.config host }
@@ -71,15 +79,18 @@ fn shown(
     alloc: Global,
     setup: &Setup,
     net: &Net<Session>,
-    app: AppId,
-    live: &Live<Session>,
-    waiting: &Waiting,
+    first: &First<'_>,
     now: u64,
 ) -> Result<Prepared, NoMemory>
     ensures { IfOk result
-        (λ p. p ≡ prepared_turn as_session setup.now net.now app live.now waiting.now now) }
+        (λ p.
+        p
+        ≡ prepared_turn as_session setup.now net.now first.now.app first.now.live.now
+        first.now.waiting.now now) }
 {
-    let ringing = ringing_for(alloc, app, &waiting.event, net)?;
+    let live = first.live;
+    let waiting = first.waiting;
+    let ringing = ringing_for(alloc, first.app, &waiting.event, net)?;
     let session = live.session.get().clone_in(alloc)?;
     prepared(
         alloc,
@@ -96,15 +107,16 @@ fn shown_kept(
     alloc: Global,
     setup: &Setup,
     net: &Net<Session>,
-    app: AppId,
-    live: &Live<Session>,
-    waiting: &Waiting,
+    first: &First<'_>,
     now: u64,
 ) -> Result<Boxed<Prepared>, NoMemory>
     ensures { IfOk result
-        (λ p. p ≡ prepared_turn as_session setup.now net.now app live.now waiting.now now) }
+        (λ p.
+        p
+        ≡ prepared_turn as_session setup.now net.now first.now.app first.now.live.now
+        first.now.waiting.now now) }
 {
-    let shown = shown(alloc, setup, net, app, live, waiting, now)?;
+    let shown = shown(alloc, setup, net, first, now)?;
     Boxed::new(alloc, shown)
 }
 
@@ -146,15 +158,16 @@ fn shared_event(alloc: Global, event: &Option<Event>) -> Result<Option<Shared<Ev
 fn lease_of(
     alloc: Global,
     number: u64,
-    app: AppId,
+    first: &First<'_>,
     kind: usize,
-    event_number: u64,
     now: u64,
     shown: &Prepared,
 ) -> Result<Lease, NoMemory>
     ensures { IfOk result
-        (λ lease. IsMade number app kind event_number now shown.now lease) }
+        (λ lease.
+        IsMade number first.now.app kind first.now.waiting.now.number now shown.now lease) }
 {
+    let waiting = first.waiting;
     if shown.view.now != now || !is_in_range(&shown.view) {
         return Err(NoMemory);
     }
@@ -162,9 +175,9 @@ fn lease_of(
     let shown = Shared::new(alloc, shown.view.clone_in(alloc)?)?;
     Ok(Lease {
         number,
-        app,
+        app: first.app,
         kind,
-        event_number,
+        event_number: waiting.number,
         shown,
         event,
     })
@@ -252,7 +265,10 @@ fn offer_of(
     ensures { IfOk result (λ offered. OffersBegun setup.now net.now app number offered) }
 {
     match live.inbox.as_slice().first() {
-        Some(waiting) => Ok(Some(offer_waiting(alloc, setup, net, app, live, waiting, number)?)),
+        Some(waiting) => {
+            let first = First { app, live, waiting };
+            Ok(Some(offer_waiting(alloc, setup, net, &first, number)?))
+        }
         None => Ok(None),
     }
 }
@@ -261,20 +277,19 @@ fn offer_waiting(
     alloc: Global,
     setup: &Setup,
     net: &Net<Session>,
-    app: AppId,
-    live: &Live<Session>,
-    waiting: &Waiting,
+    first: &First<'_>,
     number: u64,
 ) -> Result<Offered, NoMemory>
-    requires live { live_at app net.now ≡ Some live.now }
-    requires first { slice_get live.now.inbox 0 ≡ Some waiting.now }
-    requires past { live.now.since ≤ net.now.moment }
-    requires kind { is_some (app_of setup.now.config app.host) ≡ true }
-    ensures { IfOk result (λ offered. IsOfferBegun setup.now net.now app number offered) }
+    requires live { live_at first.now.app net.now ≡ Some first.now.live.now }
+    requires waits { slice_get first.now.live.now.inbox 0 ≡ Some first.now.waiting.now }
+    requires past { first.now.live.now.since ≤ net.now.moment }
+    requires kind { is_some (app_of setup.now.config first.now.app.host) ≡ true }
+    ensures { IfOk result (λ offered. IsOfferBegun setup.now net.now first.now.app number offered) }
 {
-    let shown = shown_kept(alloc, setup, net, app, live, waiting, net.moment)?;
-    match offer_first(alloc, setup, net, app, live, waiting, number, shown.get()) {
+    let shown = shown_kept(alloc, setup, net, first, net.moment)?;
+    match offer_first(alloc, setup, net, first, number, shown.get()) {
         Ok(lease) => {
+            let waiting = first.waiting;
             let begun = begun_of(&waiting.event, shown);
             Ok(Offered { lease, begun })
         }
@@ -289,25 +304,24 @@ fn offer_first(
     alloc: Global,
     setup: &Setup,
     net: &Net<Session>,
-    app: AppId,
-    live: &Live<Session>,
-    waiting: &Waiting,
+    first: &First<'_>,
     number: u64,
     begun: &Prepared,
 ) -> Result<Lease, NoMemory>
-    requires live { live_at app net.now ≡ Some live.now }
-    requires first { slice_get live.now.inbox 0 ≡ Some waiting.now }
-    requires past { live.now.since ≤ net.now.moment }
-    requires kind { is_some (app_of setup.now.config app.host) ≡ true }
+    requires live { live_at first.now.app net.now ≡ Some first.now.live.now }
+    requires waits { slice_get first.now.live.now.inbox 0 ≡ Some first.now.waiting.now }
+    requires past { first.now.live.now.since ≤ net.now.moment }
+    requires kind { is_some (app_of setup.now.config first.now.app.host) ≡ true }
     requires begun { begun.now
-        ≡ prepared_turn as_session setup.now net.now app live.now waiting.now net.now.moment }
-    ensures { IfOk result (λ lease. IsOffer setup.now net.now app number lease) }
+        ≡ prepared_turn as_session setup.now net.now first.now.app first.now.live.now
+        first.now.waiting.now net.now.moment }
+    ensures { IfOk result (λ lease. IsOffer setup.now net.now first.now.app number lease) }
 {
-    let kind = match app_of(setup, app.host) {
+    let kind = match app_of(setup, first.app.host) {
         Some(entry) => entry.kind,
         None => unreachable!(),
     };
-    lease_of(alloc, number, app, kind, waiting.number, net.moment, begun)
+    lease_of(alloc, number, first, kind, net.moment, begun)
 }
 
 /// A copy of the lease is kept behind those that are.

@@ -1,7 +1,9 @@
 //! Why a step was refused, what became of a turn, and why an epoch goes on.
 
 ghost use Rattle.std.specs.Prelude.{◌≡◌, Ok, IfErr, IsErr, OnErr, OnOk};
+ghost use Rattle.sc_servlets.specs.declared.done.Done.{Done};
 
+use crate::brought::Taken;
 use sc_journal::Journal;
 use sc_servlets::Done;
 use sc_terms::Step;
@@ -18,10 +20,10 @@ pub enum StepRefused {
     NoMemory,
 }
 
-/// A step that was refused, handed back.
+/// A step or a turn that was refused, handed back.
 #[derive(Drop)]
 pub struct Untaken {
-    pub step: Step,
+    pub taken: Taken,
     pub cause: StepRefused,
 }
 
@@ -91,16 +93,29 @@ impl From<sc_value::NoMemory> for StepRefused {
 }
 
 /// Lets go of a step that was refused.
-pub fn told(taken: Result<(), Untaken>) -> Result<(), StepRefused>
-    ensures ok { OnOk result (taken ≡ Ok tt) }
-    ensures err { IfErr result (λ cause. IfErr taken (λ untaken. untaken.cause ≡ cause)) }
-    ensures is_err { OnErr result (IsErr taken) }
+pub fn told(answer: Result<(), Untaken>) -> Result<(), StepRefused>
+    ensures ok { OnOk result (answer ≡ Ok tt) }
+    ensures err { IfErr result (λ cause. IfErr answer (λ untaken. untaken.cause ≡ cause)) }
+    ensures is_err { OnErr result (IsErr answer) }
 {
-    match taken {
+    match answer {
         Ok(()) => Ok(()),
-        Err(Untaken { step, cause }) => {
-            step.discard();
+        Err(Untaken { taken, cause }) => {
+            taken.discard();
             Err(cause)
         }
+    }
+}
+
+/// The turn that was refused.
+pub fn refused_turn(untaken: Untaken) -> CommitRefused
+    requires { (done : Done) × (untaken.taken ≡ Taken.Turn done) }
+    ensures done { untaken.taken ≡ Taken.Turn result.done }
+    ensures cause { untaken.cause ≡ result.cause }
+{
+    let Untaken { taken, cause } = untaken;
+    match taken {
+        Taken::Turn(done) => CommitRefused { done, cause },
+        Taken::Step(_) => unreachable!(),
     }
 }

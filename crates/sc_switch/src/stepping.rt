@@ -7,9 +7,10 @@ ghost use Rattle.sc_hosts.specs.Histories.{as_session};
 ghost use Rattle.sc_hosts.specs.Runs.{after_step, live_count, waiting_count};
 ghost use Rattle.sc_switch.specs.Beginnings.{BeginsAnyhow};
 ghost use Rattle.sc_switch.specs.Standing.{IsNet, step_of};
-ghost use Rattle.sc_switch.specs.Stepping.{IsStepped, HasRoom, Refuses};
+ghost use Rattle.sc_switch.specs.Stepping.{IsStepped, HasRoom, Refuses, taken_step};
 
 use crate::StepRefused;
+use crate::brought::Taken;
 use crate::copying::copy_net;
 use crate::counting::{live_count, waiting_count};
 use crate::readied::Readied;
@@ -17,7 +18,7 @@ use sc_journal::Journal;
 use sc_parts::Setup;
 use sc_servlets::Done;
 use sc_state::{Net, Prepared, Session};
-use sc_steps::{after_begun, after_step};
+use sc_steps::{Made, after_begun, after_step};
 use sc_terms::Step;
 use sc_value::{Boxed, List, NoMemory, Sent};
 use std::alloc::Global;
@@ -36,44 +37,18 @@ pub struct Stepped {
     pub waiting: u64,
 }
 
-/// Makes all that a step is to change, and room for it.
-pub fn plan_step(
-    alloc: Global,
-    setup: &Setup,
-    net: &Readied,
-    journal: &mut Journal<Step>,
-    left: &mut VecDeque<Sent>,
-    step: &Step,
-    bytes: u64,
-) -> Result<Stepped, StepRefused>
-    requires within { length journal.old.items ≤ journal.old.most_items }
-    ensures stepped { IfOk result (λ s. IsStepped setup.now net.now step.now s) }
-    ensures room { IfOk result (λ s. HasRoom journal.new bytes) }
-    ensures left_room { IfOk result
-        (λ s. deque_len left.new + length s.sent ≤ deque_capacity left.new) }
-    ensures refused { IfErr result (λ cause. Refuses journal.old bytes cause) }
-    ensures same { journal.new ≡ record journal.old { room = journal.new.room } }
-    ensures same_left { left.new.items ≡ left.old.items }
-{
-    make_room(journal, bytes)?;
-    match step_made(alloc, setup, net.get(), step) {
-        Ok(stepped) => with_room(left, stepped),
-        Err(NoMemory) => Err(StepRefused::NoMemory),
-    }
-}
-
-/// Makes all that a turn which was made is to change, and room for it.
-pub fn plan_turn(
+/// Makes all that the next step is to change, and room for it.
+pub fn plan(
     alloc: Global,
     setup: &Setup,
     net: &mut Readied,
     journal: &mut Journal<Step>,
     left: &mut VecDeque<Sent>,
-    done: &Done,
+    taken: &Taken,
     bytes: u64,
 ) -> Result<Stepped, StepRefused>
     requires within { length journal.old.items ≤ journal.old.most_items }
-    ensures stepped { IfOk result (λ s. IsStepped setup.now net.old (step_of done.now) s) }
+    ensures stepped { IfOk result (λ s. IsStepped setup.now net.old (taken_step taken.now) s) }
     ensures room { IfOk result (λ s. HasRoom journal.new bytes) }
     ensures left_room { IfOk result
         (λ s. deque_len left.new + length s.sent ≤ deque_capacity left.new) }
@@ -83,7 +58,7 @@ pub fn plan_turn(
     ensures same_net { net.new ≡ net.old }
 {
     make_room(journal, bytes)?;
-    match turn_made(alloc, setup, net, done) {
+    match made(alloc, setup, net, taken) {
         Ok(stepped) => with_room(left, stepped),
         Err(NoMemory) => Err(StepRefused::NoMemory),
     }
@@ -106,30 +81,29 @@ fn make_room(journal: &mut Journal<Step>, bytes: u64) -> Result<(), StepRefused>
     Ok(())
 }
 
-/// The net after a step, what it sends, and what is counted then.
-fn step_made(
-    alloc: Global,
-    setup: &Setup,
-    net: &Net<Session>,
-    step: &Step,
-) -> Result<Stepped, NoMemory>
-    ensures { IfOk result (λ s. IsStepped setup.now net.now step.now s) }
+/// The net after the next step, what that sends, and what is counted then.
+fn made(alloc: Global, setup: &Setup, net: &mut Readied, taken: &Taken) -> Result<Stepped, NoMemory>
+    ensures made { IfOk result (λ s. IsStepped setup.now net.old (taken_step taken.now) s) }
+    ensures same { net.new ≡ net.old }
 {
-    let next = next_net(alloc, setup, net, step)?;
+    let next = next_net(alloc, setup, net, taken)?;
     counted(alloc, next)
 }
 
-#[tactic(auto, unfolding(sc_hosts::specs::Runs::after_step))]
+/// The net after the next step.
+#[tactic(auto, unfolding(sc_hosts::specs::Runs::after_step), using(crate::proofs::Standings::unsent))]
 fn next_net(
     alloc: Global,
     setup: &Setup,
-    net: &Net<Session>,
-    step: &Step,
+    net: &mut Readied,
+    taken: &Taken,
 ) -> Result<Net<Session>, NoMemory>
-    ensures { IfOk result (λ next. next ≡ after_step as_session setup.now net.now step.now) }
+    ensures made { IfOk result
+        (λ next. next ≡ after_step as_session setup.now net.old (taken_step taken.now)) }
+    ensures same { net.new ≡ net.old }
 {
-    let mut next = copy_net(alloc, net)?;
-    match after_step(alloc, setup, step, &mut next) {
+    let mut next = copy_net(alloc, net.get())?;
+    match change(alloc, setup, net, taken, &mut next) {
         Ok(()) => Ok(next),
         Err(NoMemory) => {
             let_go(next);
@@ -138,73 +112,60 @@ fn next_net(
     }
 }
 
-/// The net after a turn, what it sends, and what is counted then.
-fn turn_made(
+/// Changes a copy of the net as the next step does; a turn begins with what is kept for it.
+#[tactic(auto, unfolding(crate::specs::Stepping::taken_step), using(crate::proofs::Beginnings::begun_copy))]
+fn change(
     alloc: Global,
     setup: &Setup,
     net: &mut Readied,
-    done: &Done,
-) -> Result<Stepped, NoMemory>
-    ensures made { IfOk result (λ s. IsStepped setup.now net.old (step_of done.now) s) }
+    taken: &Taken,
+    copy: &mut Net<Session>,
+) -> Result<(), NoMemory>
+    requires { copy.old ≡ record net.old { sent = [] } }
+    ensures made { OnOk result
+        (copy.new ≡ after_step as_session setup.now copy.old (taken_step taken.now)) }
     ensures same { net.new ≡ net.old }
 {
-    let begun = net.begun(done.lease.app, done.lease.shown.get().now);
-    let next = turned_net(alloc, setup, net.get(), begun, done)?;
-    counted(alloc, next)
-}
-
-#[tactic(auto, unfolding(sc_hosts::specs::Runs::after_step, crate::specs::Standing::step_of, crate::specs::Beginnings::BeginsAnyhow))]
-fn turned_net(
-    alloc: Global,
-    setup: &Setup,
-    net: &Net<Session>,
-    begun: Option<Boxed<Prepared>>,
-    done: &Done,
-) -> Result<Net<Session>, NoMemory>
-    requires { IfSome begun
-        (λ shown. BeginsAnyhow net.now done.now.lease.app done.now.lease.shown.now shown) }
-    ensures { IfOk result
-        (λ next. next ≡ after_step as_session setup.now net.now (step_of done.now)) }
-{
-    match copy_net(alloc, net) {
-        Ok(next) => turned_copy(alloc, setup, begun, done, next),
-        Err(NoMemory) => {
-            drop(begun);
-            Err(NoMemory)
+    match taken {
+        Taken::Step(step) => after_step(alloc, setup, step, copy),
+        Taken::Turn(done) => {
+            let begun = begun_for(net, done);
+            take_turn(alloc, setup, begun, done, copy)
         }
     }
 }
 
+/// What a turn that was made begins with, where it is kept.
+fn begun_for(net: &mut Readied, done: &Done) -> Option<Boxed<Prepared>>
+    ensures begun { IfSome result
+        (λ shown. BeginsAnyhow net.old done.now.lease.app done.now.lease.shown.now shown) }
+    ensures same { net.new ≡ net.old }
+{
+    net.begun(done.lease.app, done.lease.shown.get().now)
+}
+
+/// Changes the net as a turn that was made does.
 #[tactic(auto, unfolding(crate::specs::Standing::step_of), using(crate::proofs::Beginnings::begun_here))]
-fn turned_copy(
+fn take_turn(
     alloc: Global,
     setup: &Setup,
     begun: Option<Boxed<Prepared>>,
     done: &Done,
-    net: Net<Session>,
-) -> Result<Net<Session>, NoMemory>
+    net: &mut Net<Session>,
+) -> Result<(), NoMemory>
     requires { IfSome begun
-        (λ shown. BeginsAnyhow net done.now.lease.app done.now.lease.shown.now shown) }
-    ensures { IfOk result (λ next. next ≡ after_step as_session setup.now net (step_of done.now)) }
+        (λ shown. BeginsAnyhow net.old done.now.lease.app done.now.lease.shown.now shown) }
+    ensures { OnOk result
+        (net.new ≡ after_step as_session setup.now net.old (step_of done.now)) }
 {
-    let mut next = net;
-    match after_begun(
-        alloc,
-        setup,
-        done.lease.app,
-        done.lease.event_number,
-        begun,
-        done.lease.shown.get().now,
-        done.calls.as_slice(),
-        done.end,
-        &mut next,
-    ) {
-        Ok(()) => Ok(next),
-        Err(NoMemory) => {
-            let_go(next);
-            Err(NoMemory)
-        }
-    }
+    let made = Made {
+        app: done.lease.app,
+        event: done.lease.event_number,
+        moment: done.lease.shown.get().now,
+        calls: done.calls.as_slice(),
+        end: done.end,
+    };
+    after_begun(alloc, setup, begun, &made, net)
 }
 
 /// Lets go of a net.

@@ -13,19 +13,22 @@ ghost use Rattle.sc_leases.specs.Leases.{IsLeaseOf, is_leased, next_free};
 ghost use Rattle.sc_switch.specs.Standing.{Known, AreKept, net_of, whole, Fits, step_of};
 ghost use Rattle.sc_switch.specs.Answers.{IsGiven, Leased, LeasedOf, Received, RefusesRight, RefusesTurn, IsFullFor, Withdraws, with_step, LAST_LEASE, IsListing, IsReady, IsTurned, LAST_EPOCH, RefusesEpoch, handing};
 ghost use Rattle.sc_switch.specs.Offering.{Judges, Offers};
+ghost use Rattle.sc_switch.specs.Stepping.{MayBeTaken, taken_step};
 
-use crate::brought::{gone, number_of, step_of};
-use crate::called::{Judged, end_lease, end_leases, end_own, judge};
+use crate::brought::{Taken, gone, number_of, taken_step};
+use crate::called::{Judged, end_lease, end_own, judge};
 use crate::counting::busy_count;
 use crate::leasing::{keep_copy, offer};
 use crate::lengths::message_len;
 use crate::listing::list_net;
 use crate::next::{Next, is_leased, next_free};
 use crate::readied::{Readied, begin_net, lives_in, set_net};
-use crate::refused::{CommitRefused, Committed, Epoch, EpochRefused, StepRefused, Untaken, told};
+use crate::refused::{
+    CommitRefused, Committed, Epoch, EpochRefused, StepRefused, Untaken, refused_turn, told,
+};
 use crate::sizes::total;
 use crate::starting::{kinds_of, start_net};
-use crate::stepping::{Stepped, plan_step, plan_turn, send_all};
+use crate::stepping::{Stepped, plan, send_all};
 use sc_edge::Listing;
 use sc_handed::Handed;
 use sc_journal::Journal;
@@ -144,24 +147,24 @@ impl Switch {
         }
     }
 
-    /// Takes a step of so many bytes: all is made before the first change.
-    fn take(&mut self, alloc: Global, step: Step, bytes: u64) -> Result<(), Untaken>
-        requires allowed { IsAllowed as_session self.old.setup (net_of self.old) step }
-        requires size { bytes ≡ min (step_size step) u64.MAX }
-        ensures ok { OnOk result (self.new ≡ with_step self.old step) }
-        ensures room { OnOk result (¬ (IsFullFor self.old (step_size step))) }
+    /// Takes the next step, of so many bytes: all is made before the first change.
+    fn accept(&mut self, alloc: Global, taken: Taken, bytes: u64) -> Result<(), Untaken>
+        requires allowed { MayBeTaken self.old taken }
+        requires size { bytes ≡ min (step_size (taken_step taken)) u64.MAX }
+        ensures ok { OnOk result (self.new ≡ with_step self.old (taken_step taken)) }
+        ensures room { OnOk result (¬ (IsFullFor self.old (step_size (taken_step taken)))) }
         ensures refused { IfErr result
-            (λ untaken. RefusesRight self.old (step_size step) untaken.cause) }
-        ensures back { IfErr result (λ untaken. untaken.step ≡ step) }
+            (λ untaken. RefusesRight self.old (step_size (taken_step taken)) untaken.cause) }
+        ensures back { IfErr result (λ untaken. untaken.taken ≡ taken) }
         ensures err { OnErr result (self.new ≡ self.old) }
     {
-        match plan_step(
+        match plan(
             alloc,
             &self.setup,
-            &self.net,
+            &mut self.net,
             &mut self.journal,
             &mut self.left,
-            &step,
+            &taken,
             bytes,
         ) {
             Ok(
@@ -172,6 +175,7 @@ impl Switch {
                     waiting,
                 },
             ) => {
+                let step = taken_step(taken);
                 end_own(&step, &mut self.kept);
                 self.journal.put(step, bytes);
                 send_all(&mut self.left, sent);
@@ -180,8 +184,21 @@ impl Switch {
                 self.waiting = waiting;
                 Ok(())
             }
-            Err(cause) => Err(Untaken { step, cause }),
+            Err(cause) => Err(Untaken { taken, cause }),
         }
+    }
+
+    /// Takes a step of so many bytes.
+    #[tactic(auto, unfolding(crate::specs::Stepping::MayBeTaken, crate::specs::Stepping::taken_step))]
+    fn take(&mut self, alloc: Global, step: Step, bytes: u64) -> Result<(), StepRefused>
+        requires allowed { IsAllowed as_session self.old.setup (net_of self.old) step }
+        requires size { bytes ≡ min (step_size step) u64.MAX }
+        ensures ok { OnOk result (self.new ≡ with_step self.old step) }
+        ensures room { OnOk result (¬ (IsFullFor self.old (step_size step))) }
+        ensures refused { IfErr result (λ cause. RefusesRight self.old (step_size step) cause) }
+        ensures err { OnErr result (self.new ≡ self.old) }
+    {
+        told(self.accept(alloc, Taken::Step(step), bytes))
     }
 
     /// Takes a message that came from a place.
@@ -205,7 +222,7 @@ impl Switch {
         ensures err { OnErr result (self.new ≡ self.old) }
     {
         let bytes = message_len(&message);
-        told(self.take(alloc, Step::In(from, message), bytes))
+        self.take(alloc, Step::In(from, message), bytes)
     }
 
     /// Takes a text from a place that is no message.
@@ -220,7 +237,7 @@ impl Switch {
         ensures refused { IfErr result (λ cause. RefusesRight self.old 0 cause) }
         ensures err { OnErr result (self.new ≡ self.old) }
     {
-        told(self.take(alloc, Step::Bad(from, bad), 0))
+        self.take(alloc, Step::Bad(from, bad), 0)
     }
 
     /// A place is lost: what was sent there as a request ends.
@@ -235,7 +252,7 @@ impl Switch {
         ensures refused { IfErr result (λ cause. RefusesRight self.old 0 cause) }
         ensures err { OnErr result (self.new ≡ self.old) }
     {
-        told(self.take(alloc, Step::Lost(at), 0))
+        self.take(alloc, Step::Lost(at), 0)
     }
 
     /// The clock reaches a moment, in milliseconds, which isn't below the last one.
@@ -252,7 +269,7 @@ impl Switch {
         ensures refused { IfErr result (λ cause. RefusesRight self.old 0 cause) }
         ensures err { OnErr result (self.new ≡ self.old) }
     {
-        told(self.take(alloc, Step::Tick(now), 0))
+        self.take(alloc, Step::Tick(now), 0)
     }
 
     /// Whether the application session lives.
@@ -278,7 +295,7 @@ impl Switch {
         if !self.lives(app) {
             return Ok(false);
         }
-        match told(self.take(alloc, Step::Withdraw(app), 0)) {
+        match self.take(alloc, Step::Withdraw(app), 0) {
             Ok(()) => Ok(true),
             Err(cause) => Err(cause),
         }
@@ -432,32 +449,9 @@ impl Switch {
             });
         }
         let bytes = total(done.calls.as_slice());
-        match plan_turn(
-            alloc,
-            &self.setup,
-            &mut self.net,
-            &mut self.journal,
-            &mut self.left,
-            &done,
-            bytes,
-        ) {
-            Ok(
-                Stepped {
-                    net,
-                    sent,
-                    live,
-                    waiting,
-                },
-            ) => {
-                end_leases(done.lease.app, &mut self.kept);
-                self.journal.put(step_of(done), bytes);
-                send_all(&mut self.left, sent);
-                set_net(alloc, &mut self.net, net);
-                self.live = live;
-                self.waiting = waiting;
-                Ok(Committed::Taken)
-            }
-            Err(cause) => Err(CommitRefused { done, cause }),
+        match self.accept(alloc, Taken::Turn(done), bytes) {
+            Ok(()) => Ok(Committed::Taken),
+            Err(untaken) => Err(refused_turn(untaken)),
         }
     }
 

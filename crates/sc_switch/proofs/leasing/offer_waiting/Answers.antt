@@ -6,5 +6,5 @@ pub returns-in-Ok : goal.returns-in-Ok
 unfolding IsOfferBegun
 returns-in-Ok c = (
   c.in-Ok.ensures,
-  begun_offered c.args.setup.now c.args.net.now c.args.app c.args.live.now c.args.waiting.now _ _ c.begun_of-begun.result c.requires.live c.requires.first c.in_ok-shown.ensures c.begun_of-begun.ensures,
+  begun_offered c.args.setup.now c.args.net.now c.args.first.now.app c.args.first.now.live.now c.args.first.now.waiting.now _ _ c.begun_of-begun.result c.requires.live c.requires.waits c.in_ok-shown.ensures c.begun_of-begun.ensures,
 )
