@@ -45,7 +45,7 @@ pub fn follow(
         (λ cause. IsStoppedIn switch.old.setup lines.now switch.new.journal cause) }
 {
     let followed = follow_lines(alloc, switch, lines, apps);
-    let _ = switch.journal();
+    switch.show_laws();
     followed
 }
 

@@ -116,7 +116,7 @@ fn lend(alloc: Global, switch: &mut Switch) -> Result<Option<Lease>, NoMemory>
     ensures lends { IfOk result (λ lease. Lends switch.old switch.new lease) }
     ensures err { OnErr result (switch.new ≡ switch.old) }
 {
-    let _ = switch.journal();
+    switch.show_laws();
     switch.lease(alloc)
 }
 
@@ -128,7 +128,7 @@ fn lend_of(alloc: Global, switch: &mut Switch, app: AppId) -> Result<Option<Leas
     ensures lends { IfOk result (λ lease. LendsOf app switch.old switch.new lease) }
     ensures err { OnErr result (switch.new ≡ switch.old) }
 {
-    let _ = switch.journal();
+    switch.show_laws();
     switch.lease_of(alloc, app)
 }
 
@@ -172,7 +172,7 @@ fn settle(alloc: Global, switch: &mut Switch, done: Done) -> Result<(), StepRefu
         done.discard();
         return Err(StepRefused::NoMemory);
     }
-    let _ = switch.journal();
+    switch.show_laws();
     match switch.commit(alloc, done) {
         Ok(Committed::Taken) => Ok(()),
         Ok(Committed::Gone(_)) => unreachable!(),

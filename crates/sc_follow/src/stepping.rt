@@ -26,7 +26,7 @@ pub fn arrive(
     ensures err { OnErr result (switch.new ≡ switch.old) }
     ensures stopped { IfErr result (λ cause. IsStopped switch.old (Step.In from message) cause) }
 {
-    let _ = switch.journal();
+    switch.show_laws();
     switch.arrive(alloc, from, message)
 }
 

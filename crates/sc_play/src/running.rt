@@ -101,7 +101,7 @@ fn play_rows<K: Sink>(
             Err(stop) => return status_of(at, stop),
         }
     }
-    let _ = player.switch.journal();
+    player.switch.show_laws();
     put_last(alloc, counts, &player.switch, out)
 }
 

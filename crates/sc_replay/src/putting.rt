@@ -65,7 +65,7 @@ pub fn run_ended(status: Status, switch: Switch) -> Ran
     ensures epoch { result.epoch ≡ 0 }
     ensures began { result.began ≡ 0 }
 {
-    let _ = switch.journal();
+    switch.show_laws();
     Ran {
         status,
         epoch: 0,

@@ -486,6 +486,20 @@ impl Switch {
         &self.journal
     }
 
+    /// Shows what holds of each switch, where a caller's contract rests on it: the steps that are
+    /// kept are within their limit, those of the whole epoch are lawful, and all that they send is
+    /// what was taken and then what is left. It does nothing.
+    pub fn show_laws(&self)
+        ensures within { length self.now.journal ≤ self.now.setup.config.journal_steps }
+        ensures lawful { IsLawful as_session self.now.setup self.now.epoch self.now.began
+            (whole self.now) }
+        ensures sent { (taken : List Sent)
+            × (all_sent as_session self.now.setup self.now.epoch self.now.began (whole self.now)
+            ≡ taken ++ self.now.left) }
+    {
+        self.journal();
+    }
+
     /// Hands on the steps of the epoch that are kept, and goes on: the sessions live on, and leases
     /// stay. It makes no step, takes no memory and isn't refused. The limits of steps and of bytes
     /// are from now on those of what is kept.

@@ -20,4 +20,4 @@ pub returns-clause-follows : goal.returns-clause-follows
 returns-clause-follows g c = run_follows _ _ _ _ c.follow_lines-followed.ensures.ok
 
 pub returns-clause-stopped : goal.returns-clause-stopped
-returns-clause-stopped g c = run_stopped _ _ _ _ c.journal.ensures.lawful c.follow_lines-followed.ensures.err
+returns-clause-stopped g c = run_stopped _ _ _ _ c.show_laws.ensures.lawful c.follow_lines-followed.ensures.err

@@ -2,4 +2,4 @@ use Rattle.sc_follow.proofs.Playings.{lent_if}
 use Rattle.sc_follow.proofs.playing.lend.Goals as goal
 
 pub returns-clause-lends : goal.returns-clause-lends
-returns-clause-lends c = lent_if _ _ _ c.requires.right c.requires.untaken c.requires.free c.journal.ensures.within c.lease.ensures.leased
+returns-clause-lends c = lent_if _ _ _ c.requires.right c.requires.untaken c.requires.free c.show_laws.ensures.within c.lease.ensures.leased

@@ -12,7 +12,7 @@ returns-in-Ok-Taken-clause-ok c = took_turn _ _ c.args.done _ c.requires.lent c.
 
 pub returns-in-Ok-Taken-clause-room : goal.returns-in-Ok-Taken-clause-room
 returns-in-Ok-Taken-clause-room c =
-    below_full c.args.switch.now _ c.journal.ensures.within (c.commit.ensures.room (c.in-Ok-Taken.is ∙ ap Ok c.in-Ok-Taken.field-0-is))
+    below_full c.args.switch.now _ c.show_laws.ensures.within (c.commit.ensures.room (c.in-Ok-Taken.is ∙ ap Ok c.in-Ok-Taken.field-0-is))
 
 pub returns-in-Err-clause-stopped : goal.returns-in-Err-clause-stopped
 returns-in-Err-clause-stopped c = turn_stopped _ c.args.done _ c.requires.right c.requires.lent c.requires.fits c.in_default.not-Starved c.in-Err.ensures.refused

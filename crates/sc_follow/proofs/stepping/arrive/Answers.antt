@@ -13,4 +13,4 @@ unfolding step_size IsAllowed
 returns-clause-stopped c = stopped_err _ (steps.In c.args.from c.args.message) _ c.arrive.result refl c.requires.via c.arrive.ensures.refused
 
 pub returns-clause-room : goal.returns-clause-room
-returns-clause-room c = below_ok c.args.switch.now _ c.arrive.result c.journal.ensures.within c.arrive.ensures.room
+returns-clause-room c = below_ok c.args.switch.now _ c.arrive.result c.show_laws.ensures.within c.arrive.ensures.room
