@@ -1,2 +1,3 @@
 pub mod LiveTurns
+mod SilentEnds
 mod TurnedHosts

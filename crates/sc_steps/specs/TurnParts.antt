@@ -1,5 +1,5 @@
 -- What a turn leaves of a net, in parts by the values that they take.
-use Rattle.std.specs.Prelude.{◌≡◌, ℕ, ◌==◌, List, Bool, true, false, ◌&&◌, Option, None, Some, if◌then◌else◌, length, slice_get, drop}
+use Rattle.std.specs.Prelude.{◌≡◌, ℕ, ◌==◌, List, [], Bool, true, false, ◌&&◌, Option, None, Some, if◌then◌else◌, length, slice_get, drop}
 use Rattle.std.specs.List.{list_any}
 use Rattle.std.specs.Option.{option_map_or}
 use Rattle.sc_value.specs.declared.ids.AppId.{AppId}
@@ -18,7 +18,7 @@ use Rattle.sc_state.specs.declared.queue.Queued.TheVariants as queued
 use Rattle.sc_state.specs.declared.queue.Waiting.{Waiting}
 use Rattle.sc_state.specs.declared.session.Session.{Session}
 use Rattle.sc_state.specs.declared.working.Prepared.{Prepared}
-use Rattle.sc_hosts.specs.Finishing.{is_ready}
+use Rattle.sc_hosts.specs.Finishing.{goodbye, is_ready}
 use Rattle.sc_hosts.specs.Histories.{as_session}
 use Rattle.sc_hosts.specs.Nets.{after_orders, change_host, queue_for}
 use Rattle.sc_hosts.specs.Preparing.{prepared_session}
@@ -82,6 +82,13 @@ unfoldable pub turned_by : Setup → AppId → Outcome → Net Session → Net S
 turned_by setup app done net =
     closed_by setup app done.session done.ends
     (after_orders setup app done.orders (net_after app done.session net))
+
+-- the session ends with a turn that sends nothing, and its end sends nothing either
+pub record EndsSilently (setup : Setup) (app : AppId) (done : Outcome)
+    (net : Net Session) : Type 0 where
+  pub ends_is : done.ends ≡ true
+  pub orders_is : done.orders ≡ []
+  pub goodbye_is : goodbye setup.config done.session (drop 1 (inbox_of (live_at app net))) ≡ []
 
 -- a turn with the first event, where one waits
 unfoldable pub first_by : Setup → AppId → Session → Option Waiting → ℕ → List CallRecord → End

@@ -33,8 +33,9 @@ fn hosts_without(alloc: Global, app: AppId, hosts: &mut [Host<Session>]) -> Resu
     Ok(())
 }
 
+/// The net without the session, and without what it alone kept.
 #[tactic(auto, unfolding(sc_hosts::specs::Steps::without_live, crate::specs::TurnParts::host_without))]
-fn without_live(alloc: Global, app: AppId, net: &mut Net<Session>) -> Result<(), NoMemory>
+pub fn without_live(alloc: Global, app: AppId, net: &mut Net<Session>) -> Result<(), NoMemory>
     ensures { OnOk result (net.new ≡ without_live app net.old) }
 {
     hosts_without(alloc, app, &mut net.hosts.items)

@@ -5,6 +5,7 @@
 mod endings;
 mod leaving;
 mod lives;
+mod silent;
 mod stepping;
 mod turning;
 mod waking;

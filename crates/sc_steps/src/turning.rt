@@ -8,8 +8,10 @@ ghost use Rattle.sc_hosts.specs.Preparing.{prepared_session};
 ghost use Rattle.sc_hosts.specs.Steps.{live_at, outcome_by, ringing_at, turn_of, turns};
 ghost use Rattle.sc_steps.specs.TurnParts.{Begins, FirstBegins, turned_by, first_by, turns_by};
 
+use crate::endings::without_live;
 use crate::leaving::net_after;
 use crate::lives::{live_copy, ringing_at};
+use crate::silent::ends_silently;
 use crate::waking::closed_turn;
 use sc_finish::{Made, outcome, outcome_from};
 use sc_net::obeyed;
@@ -19,10 +21,10 @@ use sc_terms::Config;
 use sc_value::{AppId, Boxed, CloneIn, NoMemory, Shared};
 use std::alloc::Global;
 
-/// The event leaves the inbox, what the turn sends is sent, and then the session ends or waits for
-/// what is next.
+// The event leaves the inbox, what the turn sends is sent, and then the session ends or waits for
+// what is next.
 #[tactic(auto, unfolding(crate::specs::TurnParts::turned_by))]
-fn turned(
+fn put_turn(
     alloc: Global,
     setup: &Setup,
     app: AppId,
@@ -40,6 +42,34 @@ fn turned(
     net_after(alloc, app, &session, net)?;
     obeyed(alloc, setup, app, orders.as_slice(), net)?;
     closed_turn(alloc, setup, app, session.get(), ends, net)
+}
+
+fn let_outcome_go(done: Outcome) {
+    drop(done);
+}
+
+/// What a turn makes of the net: a session that ends where nothing is sent goes as it is.
+#[tactic(auto, using(crate::proofs::SilentEnds::silent_end))]
+fn turned(
+    alloc: Global,
+    setup: &Setup,
+    app: AppId,
+    done: Outcome,
+    net: &mut Net<Session>,
+) -> Result<(), NoMemory>
+    ensures { OnOk result (net.new ≡ turned_by setup.now app done net.old) }
+{
+    match ends_silently(alloc, setup, app, &done, net) {
+        Ok(true) => {
+            let_outcome_go(done);
+            without_live(alloc, app, net)
+        }
+        Ok(false) => put_turn(alloc, setup, app, done, net),
+        Err(NoMemory) => {
+            let_outcome_go(done);
+            Err(NoMemory)
+        }
+    }
 }
 
 #[tactic(auto, unfolding(sc_hosts::specs::Steps::outcome_by, sc_hosts::specs::Steps::turn_of, sc_hosts::specs::Histories::as_session))]
