@@ -86,7 +86,7 @@ impl<S: Timed> Host<S> {
             return Ok(());
         }
         let own = own_lists(self.alloc, &self.lists)?;
-        self.lists = Some(Arc::new(self.alloc, own)?);
+        self.lists = Some(own);
         Ok(())
     }
 
@@ -625,17 +625,21 @@ fn is_own<S: Timed>(lists: &mut Arc<HostLists<S>>) -> bool
     }
 }
 
-// A copy of the lists, or none yet.
+// A copy of the lists, or none yet. It is rare beside the calls of those that are alone, which stay
+// small without it.
+#[inline(never)]
 fn own_lists<S: Timed>(
     alloc: Global,
     lists: &Option<Arc<HostLists<S>>>,
-) -> Result<HostLists<S>, NoMemory>
-    ensures { IfOk result (λ own. own ≡ lists_of lists.now) }
+) -> Result<Arc<HostLists<S>>, NoMemory>
+    ensures { IfOk result (λ own. arc_value own ≡ lists_of lists.now) }
 {
-    match lists {
-        Some(lists) => lists.clone_in(alloc),
-        None => Ok(HostLists::new(alloc)),
-    }
+    let own = match lists {
+        Some(lists) => lists.clone_in(alloc)?,
+        None => HostLists::new(alloc),
+    };
+    let own = Arc::new(alloc, own)?;
+    Ok(own)
 }
 
 // Settles lists that nobody else has.
