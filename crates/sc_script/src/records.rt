@@ -3,7 +3,7 @@
 ghost use Rattle.std.specs.Prelude.{◌≡◌, ◌++◌, [], ◌∷◌, decimal, length, IfOk, OnErr, OnOk};
 ghost use Rattle.sc_model.specs.Records.{end_text, end_word, out_word, record_line, record_text};
 
-use sc_message_text::text_of;
+use sc_message_text::bytes_of;
 use sc_names::put_place;
 use sc_value::{NoMemory, Place, Sent, Text, write_u64};
 use std::alloc::Global;
@@ -12,25 +12,50 @@ use std::alloc::Global;
 /// is the length of the message in bytes, then the message and a line feed. PLACE is `cN` for the
 /// connection N that a peer opened, and `a.b.c.d:port` for an address. The one error is want of
 /// memory, and then the text is as before.
-#[tactic(auto, unfolding(sc_model::specs::Records::record_text))]
 pub fn write_sent(alloc: Global, sent: &Sent, out: &mut Text) -> Result<(), NoMemory>
     ensures ok { OnOk result (out.new ≡ out.old ++ record_text sent.now) }
     ensures err { OnErr result (out.new ≡ out.old) }
 {
-    let text = text_of(alloc, &sent.message)?;
-    let whole = record_of(alloc, sent.place, text.as_bytes())?;
-    out.append(whole.as_bytes())
+    let record = record_of(alloc, sent)?;
+    put_whole(alloc, record, out)
 }
 
-// The record of a message with this text, in a text of its own.
-fn record_of(alloc: Global, place: Place, text: &[u8]) -> Result<Text, NoMemory>
-    ensures { IfOk result
-        (λ whole. whole ≡ record_line place (length text.now) ++ text.now ++ 10 ∷ []) }
+// Puts these bytes at the end of a text; they are moved where nothing stands before them.
+fn put_whole(alloc: Global, bytes: Vec<u8>, out: &mut Text) -> Result<(), NoMemory>
+    ensures ok { OnOk result (out.new ≡ out.old ++ bytes.items) }
+    ensures err { OnErr result (out.new ≡ out.old) }
 {
-    let mut whole = Text::new(alloc);
-    put_record_line(place, text.len() as u64, &mut whole)?;
-    whole.append(text)?;
-    whole.append(b"\n")?;
+    if out.is_empty() {
+        *out = Text::from_vec(alloc, bytes)?;
+        return Ok(());
+    }
+    out.append(bytes.as_slice())
+}
+
+// The bytes of the record of a message that was sent.
+#[tactic(auto, unfolding(sc_model::specs::Records::record_text))]
+fn record_of(alloc: Global, sent: &Sent) -> Result<Vec<u8>, NoMemory>
+    ensures { IfOk result (λ whole. whole.items ≡ record_text sent.now) }
+{
+    let bytes = bytes_of(alloc, &sent.message)?;
+    record_with(alloc, sent.place, bytes.as_slice())
+}
+
+// How many bytes a record has in most calls: a list of them is made without growing.
+const ROOM: usize = 640;
+
+// The record of a message with these bytes.
+fn record_with(alloc: Global, place: Place, bytes: &[u8]) -> Result<Vec<u8>, NoMemory>
+    ensures { IfOk result
+        (λ whole.
+        whole.items ≡ record_line place (length bytes.now) ++ bytes.now ++ 10 ∷ []) }
+{
+    let mut line = Text::new(alloc);
+    put_record_line(place, bytes.len() as u64, &mut line)?;
+    let mut whole = Vec::with_capacity(alloc, ROOM)?;
+    whole.extend_from_slice(line.as_bytes())?;
+    whole.extend_from_slice(bytes)?;
+    whole.push(b'\n')?;
     Ok(whole)
 }
 
