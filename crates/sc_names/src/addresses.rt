@@ -27,12 +27,12 @@ pub fn put_place(place: Place, out: &mut Text) -> Result<(), NoMemory>
 {
     match place {
         Place::Back(number) => {
-            out.append(b"c")?;
+            out.push(b'c')?;
             write_u64(number, out)
         }
         Place::To(ip, port) => {
             put_ip(ip, out)?;
-            out.append(b":")?;
+            out.push(b':')?;
             write_u64(u64::from(port), out)
         }
     }
@@ -44,7 +44,7 @@ pub fn put_ip(ip: [u8; 4], out: &mut Text) -> Result<(), NoMemory>
     ensures { OnOk result (out.new ≡ out.old ++ ip_text ip) }
 {
     put_pair(ip[0], ip[1], out)?;
-    out.append(b".")?;
+    out.push(b'.')?;
     put_pair(ip[2], ip[3], out)
 }
 
@@ -53,6 +53,6 @@ fn put_pair(a: u8, b: u8, out: &mut Text) -> Result<(), NoMemory>
     ensures { OnOk result (out.new ≡ out.old ++ (decimal a ++ 46 ∷ [] ++ decimal b)) }
 {
     write_u64(u64::from(a), out)?;
-    out.append(b".")?;
+    out.push(b'.')?;
     write_u64(u64::from(b), out)
 }

@@ -27,7 +27,7 @@ pub fn branch(
     let mut text = Text::new(alloc);
     put_cookie(&mut text)?;
     put_tag(salt, epoch, app, k, &mut text)?;
-    out.append(text.as_bytes())
+    out.append_text(text)
 }
 
 /// Puts the tag of this number at the end of a text: `<mark>-h-s-k` (RFC 3261 section 19.3).
@@ -44,7 +44,7 @@ pub fn tag(
 {
     let mut text = Text::new(alloc);
     put_tag(salt, epoch, app, k, &mut text)?;
-    out.append(text.as_bytes())
+    out.append_text(text)
 }
 
 /// Puts the Call-ID of this number at the end of a text: `<mark>-h-s-k@<host>`, where the host is
@@ -64,9 +64,9 @@ pub fn call_id(
 {
     let mut text = Text::new(alloc);
     put_tag(salt, epoch, app, k, &mut text)?;
-    text.append(b"@")?;
+    text.push(b'@')?;
     put_ip(ip, &mut text)?;
-    out.append(text.as_bytes())
+    out.append_text(text)
 }
 
 /// Puts the tag of an answer that no session gives at the end of a text: `<salt>-edge`, in every
@@ -79,7 +79,7 @@ pub fn edge_tag(alloc: Global, salt: &Text, out: &mut Text) -> Result<(), NoMemo
     let mut text = Text::new(alloc);
     text.append(salt.as_bytes())?;
     put_edge_word(&mut text)?;
-    out.append(text.as_bytes())
+    out.append_text(text)
 }
 
 /// Puts the Record-Route and Contact URI of a session at the end of a text:
@@ -98,7 +98,7 @@ pub fn ap_uri(
 {
     let mut text = Text::new(alloc);
     put_session_uri(alloc, ip, port, epoch, app, &mut text)?;
-    out.append(text.as_bytes())
+    out.append_text(text)
 }
 
 /// Puts the Route URI by which a request comes back to the router at the end of a text:
@@ -118,7 +118,7 @@ pub fn ar_uri(
 {
     let mut text = Text::new(alloc);
     put_return_uri(alloc, ip, port, n, region, &mut text)?;
-    out.append(text.as_bytes())
+    out.append_text(text)
 }
 
 #[tactic(auto, unfolding(sc_model::specs::Names::tag_text))]
@@ -126,7 +126,7 @@ fn put_tag(salt: &Text, epoch: u32, app: AppId, k: u64, out: &mut Text) -> Resul
     ensures { OnOk result (out.new ≡ out.old ++ tag_text salt.now epoch app k) }
 {
     put_mark(salt, epoch, out)?;
-    out.append(b"-")?;
+    out.push(b'-')?;
     put_counted(app, k, out)
 }
 
@@ -138,7 +138,7 @@ fn put_mark(salt: &Text, epoch: u32, out: &mut Text) -> Result<(), NoMemory>
     if epoch == 0 {
         return Ok(());
     }
-    out.append(b".")?;
+    out.push(b'.')?;
     write_u64(u64::from(epoch), out)
 }
 
@@ -148,9 +148,9 @@ fn put_counted(app: AppId, k: u64, out: &mut Text) -> Result<(), NoMemory>
     ensures { OnOk result (out.new ≡ out.old ++ counted_text app k) }
 {
     write_u64(u64::from(app.host), out)?;
-    out.append(b"-")?;
+    out.push(b'-')?;
     write_u64(app.serial, out)?;
-    out.append(b"-")?;
+    out.push(b'-')?;
     write_u64(k, out)
 }
 
@@ -213,7 +213,7 @@ pub fn put_ap_value(epoch: u32, app: AppId, out: &mut Text) -> Result<(), NoMemo
     if epoch == 0 {
         return Ok(());
     }
-    out.append(b".")?;
+    out.push(b'.')?;
     write_u64(u64::from(epoch), out)
 }
 
@@ -223,7 +223,7 @@ fn put_app(app: AppId, out: &mut Text) -> Result<(), NoMemory>
     ensures { OnOk result (out.new ≡ out.old ++ app_text app) }
 {
     write_u64(u64::from(app.host), out)?;
-    out.append(b"-")?;
+    out.push(b'-')?;
     write_u64(app.serial, out)
 }
 
@@ -232,7 +232,7 @@ pub fn put_ar_value(n: u32, region: Region, out: &mut Text) -> Result<(), NoMemo
     ensures { OnOk result (out.new ≡ out.old ++ ar_value n region) }
 {
     write_u64(u64::from(n), out)?;
-    out.append(b"-")?;
+    out.push(b'-')?;
     put_letter(region, out)
 }
 
@@ -240,9 +240,9 @@ fn put_letter(region: Region, out: &mut Text) -> Result<(), NoMemory>
     ensures { OnOk result (out.new ≡ out.old ++ region_letter region ∷ []) }
 {
     match region {
-        Region::Originating => out.append(b"O"),
-        Region::Terminating => out.append(b"T"),
-        Region::Neutral => out.append(b"N"),
+        Region::Originating => out.push(b'O'),
+        Region::Terminating => out.push(b'T'),
+        Region::Neutral => out.push(b'N'),
     }
 }
 
@@ -284,7 +284,7 @@ fn put_listen(ip: [u8; 4], port: u16, out: &mut Text) -> Result<(), NoMemory>
 {
     put_scheme(out)?;
     put_ip(ip, out)?;
-    out.append(b":")?;
+    out.push(b':')?;
     write_u64(u64::from(port), out)
 }
 
@@ -308,8 +308,8 @@ fn put_fixed_params(out: &mut Text) -> Result<(), NoMemory>
 fn put_named_value(name: &[u8], value: &[u8], out: &mut Text) -> Result<(), NoMemory>
     ensures { OnOk result (out.new ≡ out.old ++ named_value name.now value.now) }
 {
-    out.append(b";")?;
+    out.push(b';')?;
     out.append(name)?;
-    out.append(b"=")?;
+    out.push(b'=')?;
     out.append(value)
 }

@@ -1,3 +1,4 @@
 pub mod ListFacts
+pub mod NumberLaws
 pub mod OtherLaws
 pub mod PlaceLaws

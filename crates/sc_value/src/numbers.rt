@@ -5,10 +5,14 @@ use itoa::Buffer;
 
 /// Puts the decimal of a number at the end of a text, without leading zeros. For want of memory
 /// the text is as before.
+#[tactic(auto, using(crate::proofs::NumberLaws::digit_decimal))]
 pub fn write_u64(n: u64, out: &mut Text) -> Result<(), NoMemory>
     ensures ok { OnOk result (out.new ≡ out.old ++ decimal n) }
     ensures err { OnErr result (out.new ≡ out.old) }
 {
+    if n < 10 {
+        return out.push(b'0' + n as u8);
+    }
     let mut buffer = Buffer::new();
     out.append(buffer.format(n).as_bytes())
 }

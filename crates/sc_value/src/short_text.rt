@@ -1,4 +1,4 @@
-ghost use Rattle.std.specs.Prelude.{◌≡◌, ◌≤◌, ◌+◌, ◌++◌, length};
+ghost use Rattle.std.specs.Prelude.{◌≡◌, ◌<◌, ◌≤◌, ◌+◌, ◌++◌, ◌∷◌, [], length};
 
 use std::marker::Model;
 
@@ -71,5 +71,14 @@ impl ShortText {
         let end = len + more.len();
         self.bytes[len..end].copy_from_slice(more);
         self.len = end as u8;
+    }
+
+    /// Puts a byte at the end.
+    pub fn push(&mut self, byte: u8)
+        requires { length self.old < 22 }
+        ensures { self.new ≡ self.old ++ byte ∷ [] }
+    {
+        self.bytes[self.len as usize] = byte;
+        self.len += 1;
     }
 }

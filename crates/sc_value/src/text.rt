@@ -1,4 +1,4 @@
-ghost use Rattle.std.specs.Prelude.{◌≡◌, ◌==◌, ◌≤◌, ◌++◌, [], length, IfOk, OnOk, OnErr};
+ghost use Rattle.std.specs.Prelude.{◌≡◌, ◌==◌, ◌≤◌, ◌++◌, ◌∷◌, [], length, IfOk, OnOk, OnErr};
 
 use crate::long_text::LongText;
 use crate::short_text::{MOST_SHORT, ShortText};
@@ -142,6 +142,33 @@ impl Text {
         };
         self.bytes = Bytes::Long(long);
         Ok(())
+    }
+
+    /// Puts a byte at the end, or for want of memory leaves the text as it is.
+    pub fn push(&mut self, byte: u8) -> Result<(), NoMemory>
+        ensures ok { OnOk result (self.new ≡ self.old ++ byte ∷ []) }
+        ensures err { OnErr result (self.new ≡ self.old) }
+    {
+        if let Bytes::Short(short) = &mut self.bytes {
+            if short.len() < MOST_SHORT {
+                short.push(byte);
+                return Ok(());
+            }
+        }
+        self.append(&[byte])
+    }
+
+    /// Puts a text at the end, moved where this one is empty: all of it or, for want of memory,
+    /// nothing.
+    pub fn append_text(&mut self, more: Text) -> Result<(), NoMemory>
+        ensures ok { OnOk result (self.new ≡ self.old ++ more) }
+        ensures err { OnErr result (self.new ≡ self.old) }
+    {
+        if self.is_empty() {
+            *self = more;
+            return Ok(());
+        }
+        self.append(more.as_bytes())
     }
 }
 
