@@ -17,6 +17,12 @@ impl<T: Same> Same for Option<T> {
     }
 }
 
+impl Same for u8 {
+    fn same(&self, other: &u8) -> bool {
+        *self == *other
+    }
+}
+
 impl Same for u16 {
     fn same(&self, other: &u16) -> bool {
         *self == *other

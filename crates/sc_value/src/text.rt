@@ -1,10 +1,14 @@
 ghost use Rattle.std.specs.Prelude.{◌≡◌, ◌==◌, ◌≤◌, ◌++◌, ◌∷◌, [], length, IfOk, OnOk, OnErr};
 
+use crate::list::same_items;
 use crate::long_text::LongText;
 use crate::short_text::{MOST_SHORT, ShortText};
 use crate::{CloneIn, NoMemory, Same};
 use std::alloc::Global;
 use std::marker::Model;
+
+// The most bytes of a text that is compared byte by byte.
+const FEW: usize = 12;
 
 /// A text of bytes, which need not be UTF-8. A contract sees its bytes. At most 22 bytes stand in
 /// the value itself, so that such a text takes no memory; a longer one has memory that it shares
@@ -188,7 +192,12 @@ impl CloneIn for Text {
 }
 
 impl Same for Text {
+    // Few bytes are compared one by one, which takes less than the comparison of many.
     fn same(&self, other: &Text) -> bool {
-        self.as_bytes() == other.as_bytes()
+        let (bytes, others) = (self.as_bytes(), other.as_bytes());
+        if bytes.len() <= FEW {
+            return same_items(bytes, others);
+        }
+        bytes == others
     }
 }
