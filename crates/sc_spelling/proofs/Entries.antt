@@ -97,7 +97,7 @@ pub same_kind : (a b : Header) → is_kind a b ≡ true → a ≡ b
 unfolding is_kind
 same_kind a b h = sym (kind_again a) ∙ ap kind_at (same_number (number_at a) (number_at b) h) ∙ kind_again b
 
-kind_itself : (kind : Header) → is_kind kind kind ≡ true
+pub kind_itself : (kind : Header) → is_kind kind kind ≡ true
 unfolding is_kind
 kind_itself kind = itself (number_at kind)
 

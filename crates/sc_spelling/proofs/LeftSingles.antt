@@ -6,14 +6,13 @@ use Rattle.std.proofs.lemmas.Bool.{false≢true}
 use Rattle.sc_syntax.specs.declared.left.Left.{Left}
 use Rattle.sc_syntax.specs.declared.left.Lists.{Lists}
 use Rattle.sc_syntax.specs.declared.left.Singles.{Singles}
+use Rattle.sc_syntax.specs.declared.left.Header.{Header}
 use Rattle.sc_syntax.specs.declared.left.Header.TheVariants as headers
 use Rattle.sc_tokens.specs.Bytes.{Bytes}
-use Rattle.sc_tokens.specs.Numbers.{number_of}
-use Rattle.sc_syntax.specs.Addresses.{address_of}
-use Rattle.sc_syntax.specs.Sequences.{cseq_of, hops_of}
-use Rattle.sc_syntax.specs.Judging.{with_values as counted, taken_once, with_from, with_to, with_call_id, with_cseq, with_hops, with_length, in_line, with_header as taken}
-use Rattle.sc_spelling.proofs.Entries.{Entry, Of, is_kind, number_at, values_at, fields_at, all_taken}
+use Rattle.sc_syntax.specs.Judging.{with_values as counted, taken_once, in_line, with_header as taken}
+use Rattle.sc_spelling.proofs.Entries.{Entry, Of, values_at, fields_at, all_taken}
 use Rattle.sc_spelling.proofs.Readings.{ReadsAll, ReadsOnce, Reads, held, either_of, are_apart, count, joined, merged, begins_so, Fits}
+use Rattle.sc_spelling.proofs.OnceLaws.{Once, added, from_once, to_once, call_id_once, cseq_once, max_forwards_once, content_length_once}
 use Rattle.sc_spelling.proofs.LineLaws.{taken_then}
 use Rattle.sc_spelling.proofs.LeftLists.{Leaves, Leave, kept_same, taken_if, taken_some, no_more_than, leaves_on, via_left, route_left, record_route_left, contact_left, other_left}
 
@@ -41,113 +40,28 @@ one_value : {X : Type 0} (read : Bytes → Option X) (value : Bytes) (values : L
 unfolding ReadsOnce
 one_value read value values x h is = subst (λ (vs : List Bytes). ReadsOnce read (value ∷ vs) (Some x)) (sym is) (x, h, refl)
 
-pub from_left : (name value : Bytes) (entries : List Entry) → Leave entries → Leave (Of headers.From name value ∷ entries)
-unfolding values_at fields_at is_kind number_at all_taken taken counted with_from count held either_of are_apart
-from_left name value entries leave left final begun h =
-    let one = taken_then (taken left name headers.From value) (λ next. all_taken next entries) final h in
-    let is = taken_first (is_some left.singles.from) (with_from left) (in_line address_of value) one.0 one.1 in
-    let free = none_before left.singles.from is.0 in
-    let next : Left = record left { room = left.room - 1; singles = record left.singles { from = Some is.1 } } in
+pub once_left : {X : Type 0} (kind : Header) (once : Once kind X) (name value : Bytes) (entries : List Entry) → Leave entries → Leave (Of kind name value ∷ entries)
+unfolding all_taken counted added held either_of are_apart
+once_left kind once name value entries leave left final begun h =
+    let one = taken_then (taken left name kind value) (λ next. all_taken next entries) final h in
+    let is = taken_first (is_some (once.kept left.singles)) (added once.put left) (in_line once.read value) one.0 (sym (once.taken_so left name value) ∙ one.1) in
+    let free = none_before (once.kept left.singles) is.0 in
+    let next : Left = record left { room = left.room - 1; singles = once.put (Some is.1) left.singles } in
     let fit = taken_if (nat_le 1 left.room) (Ok next) 11 one.0 is.3 in
     let room = no_more_than 1 left.room fit.0 in
     let rest = leave next final begun (ap (λ n. all_taken n entries) (kept_same next one.0 fit.1) ∙ one.2) in
-    let none = none_behind is.1 rest.singles.from rest.fits.from in
-    let none_held : held rest.singles.from ≡ 0 = ap held none in
+    let none = none_behind is.1 (once.kept rest.singles) (ap (λ o. are_apart o (once.kept rest.singles)) (sym (once.kept_put (Some is.1) left.singles)) ∙ once.apart next rest.lists rest.singles rest.fits) in
+    let none_held : held (once.kept rest.singles) ≡ 0 = ap held none in
+    let more = once.counts rest.lists (Some is.1) rest.singles in
     let less = rest.fits.room in
-    let singles : Singles = record rest.singles { from = Some is.1 } in
-    let behind : Reads (Of headers.From name value ∷ entries) rest.lists singles = record { via = rest.reads.via; route = rest.reads.route; record_route = rest.reads.record_route; contact = rest.reads.contact; others = rest.reads.others; from = one_value address_of value (values_at headers.From entries) is.1 is.2 (no_values address_of (values_at headers.From entries) rest.singles.from none rest.reads.from); to = rest.reads.to; call_id = rest.reads.call_id; cseq = rest.reads.cseq; max_forwards = rest.reads.max_forwards; content_length = rest.reads.content_length } in
-    let fits : Fits left rest.lists singles = record { room = omega (arith, less, room, none_held); begun = rest.fits.begun; from = ap (λ o. are_apart o (Some is.1)) free; to = rest.fits.to; call_id = rest.fits.call_id; cseq = rest.fits.cseq; max_forwards = rest.fits.max_forwards; content_length = rest.fits.content_length } in
-    leaves_on left next final headers.From name value entries rest.lists singles rest behind fits refl (ap (λ o. record (merged left.singles singles) { from = o }) (sym (ap (λ o. either_of o (Some is.1)) free)))
-
-pub to_left : (name value : Bytes) (entries : List Entry) → Leave entries → Leave (Of headers.To name value ∷ entries)
-unfolding values_at fields_at is_kind number_at all_taken taken counted with_to count held either_of are_apart
-to_left name value entries leave left final begun h =
-    let one = taken_then (taken left name headers.To value) (λ next. all_taken next entries) final h in
-    let is = taken_first (is_some left.singles.to) (with_to left) (in_line address_of value) one.0 one.1 in
-    let free = none_before left.singles.to is.0 in
-    let next : Left = record left { room = left.room - 1; singles = record left.singles { to = Some is.1 } } in
-    let fit = taken_if (nat_le 1 left.room) (Ok next) 11 one.0 is.3 in
-    let room = no_more_than 1 left.room fit.0 in
-    let rest = leave next final begun (ap (λ n. all_taken n entries) (kept_same next one.0 fit.1) ∙ one.2) in
-    let none = none_behind is.1 rest.singles.to rest.fits.to in
-    let none_held : held rest.singles.to ≡ 0 = ap held none in
-    let less = rest.fits.room in
-    let singles : Singles = record rest.singles { to = Some is.1 } in
-    let behind : Reads (Of headers.To name value ∷ entries) rest.lists singles = record { via = rest.reads.via; route = rest.reads.route; record_route = rest.reads.record_route; contact = rest.reads.contact; others = rest.reads.others; from = rest.reads.from; to = one_value address_of value (values_at headers.To entries) is.1 is.2 (no_values address_of (values_at headers.To entries) rest.singles.to none rest.reads.to); call_id = rest.reads.call_id; cseq = rest.reads.cseq; max_forwards = rest.reads.max_forwards; content_length = rest.reads.content_length } in
-    let fits : Fits left rest.lists singles = record { room = omega (arith, less, room, none_held); begun = rest.fits.begun; from = rest.fits.from; to = ap (λ o. are_apart o (Some is.1)) free; call_id = rest.fits.call_id; cseq = rest.fits.cseq; max_forwards = rest.fits.max_forwards; content_length = rest.fits.content_length } in
-    leaves_on left next final headers.To name value entries rest.lists singles rest behind fits refl (ap (λ o. record (merged left.singles singles) { to = o }) (sym (ap (λ o. either_of o (Some is.1)) free)))
-
-pub call_id_left : (name value : Bytes) (entries : List Entry) → Leave entries → Leave (Of headers.CallId name value ∷ entries)
-unfolding values_at fields_at is_kind number_at all_taken taken counted with_call_id count held either_of are_apart
-call_id_left name value entries leave left final begun h =
-    let one = taken_then (taken left name headers.CallId value) (λ next. all_taken next entries) final h in
-    let is = taken_first (is_some left.singles.call_id) (with_call_id left) (in_line Some value) one.0 one.1 in
-    let free = none_before left.singles.call_id is.0 in
-    let next : Left = record left { room = left.room - 1; singles = record left.singles { call_id = Some is.1 } } in
-    let fit = taken_if (nat_le 1 left.room) (Ok next) 11 one.0 is.3 in
-    let room = no_more_than 1 left.room fit.0 in
-    let rest = leave next final begun (ap (λ n. all_taken n entries) (kept_same next one.0 fit.1) ∙ one.2) in
-    let none = none_behind is.1 rest.singles.call_id rest.fits.call_id in
-    let none_held : held rest.singles.call_id ≡ 0 = ap held none in
-    let less = rest.fits.room in
-    let singles : Singles = record rest.singles { call_id = Some is.1 } in
-    let behind : Reads (Of headers.CallId name value ∷ entries) rest.lists singles = record { via = rest.reads.via; route = rest.reads.route; record_route = rest.reads.record_route; contact = rest.reads.contact; others = rest.reads.others; from = rest.reads.from; to = rest.reads.to; call_id = one_value Some value (values_at headers.CallId entries) is.1 is.2 (no_values Some (values_at headers.CallId entries) rest.singles.call_id none rest.reads.call_id); cseq = rest.reads.cseq; max_forwards = rest.reads.max_forwards; content_length = rest.reads.content_length } in
-    let fits : Fits left rest.lists singles = record { room = omega (arith, less, room, none_held); begun = rest.fits.begun; from = rest.fits.from; to = rest.fits.to; call_id = ap (λ o. are_apart o (Some is.1)) free; cseq = rest.fits.cseq; max_forwards = rest.fits.max_forwards; content_length = rest.fits.content_length } in
-    leaves_on left next final headers.CallId name value entries rest.lists singles rest behind fits refl (ap (λ o. record (merged left.singles singles) { call_id = o }) (sym (ap (λ o. either_of o (Some is.1)) free)))
-
-pub cseq_left : (name value : Bytes) (entries : List Entry) → Leave entries → Leave (Of headers.CSeq name value ∷ entries)
-unfolding values_at fields_at is_kind number_at all_taken taken counted with_cseq count held either_of are_apart
-cseq_left name value entries leave left final begun h =
-    let one = taken_then (taken left name headers.CSeq value) (λ next. all_taken next entries) final h in
-    let is = taken_first (is_some left.singles.cseq) (with_cseq left) (in_line cseq_of value) one.0 one.1 in
-    let free = none_before left.singles.cseq is.0 in
-    let next : Left = record left { room = left.room - 1; singles = record left.singles { cseq = Some is.1 } } in
-    let fit = taken_if (nat_le 1 left.room) (Ok next) 11 one.0 is.3 in
-    let room = no_more_than 1 left.room fit.0 in
-    let rest = leave next final begun (ap (λ n. all_taken n entries) (kept_same next one.0 fit.1) ∙ one.2) in
-    let none = none_behind is.1 rest.singles.cseq rest.fits.cseq in
-    let none_held : held rest.singles.cseq ≡ 0 = ap held none in
-    let less = rest.fits.room in
-    let singles : Singles = record rest.singles { cseq = Some is.1 } in
-    let behind : Reads (Of headers.CSeq name value ∷ entries) rest.lists singles = record { via = rest.reads.via; route = rest.reads.route; record_route = rest.reads.record_route; contact = rest.reads.contact; others = rest.reads.others; from = rest.reads.from; to = rest.reads.to; call_id = rest.reads.call_id; cseq = one_value cseq_of value (values_at headers.CSeq entries) is.1 is.2 (no_values cseq_of (values_at headers.CSeq entries) rest.singles.cseq none rest.reads.cseq); max_forwards = rest.reads.max_forwards; content_length = rest.reads.content_length } in
-    let fits : Fits left rest.lists singles = record { room = omega (arith, less, room, none_held); begun = rest.fits.begun; from = rest.fits.from; to = rest.fits.to; call_id = rest.fits.call_id; cseq = ap (λ o. are_apart o (Some is.1)) free; max_forwards = rest.fits.max_forwards; content_length = rest.fits.content_length } in
-    leaves_on left next final headers.CSeq name value entries rest.lists singles rest behind fits refl (ap (λ o. record (merged left.singles singles) { cseq = o }) (sym (ap (λ o. either_of o (Some is.1)) free)))
-
-pub max_forwards_left : (name value : Bytes) (entries : List Entry) → Leave entries → Leave (Of headers.MaxForwards name value ∷ entries)
-unfolding values_at fields_at is_kind number_at all_taken taken counted with_hops count held either_of are_apart
-max_forwards_left name value entries leave left final begun h =
-    let one = taken_then (taken left name headers.MaxForwards value) (λ next. all_taken next entries) final h in
-    let is = taken_first (is_some left.singles.hops) (with_hops left) (in_line hops_of value) one.0 one.1 in
-    let free = none_before left.singles.hops is.0 in
-    let next : Left = record left { room = left.room - 1; singles = record left.singles { hops = Some is.1 } } in
-    let fit = taken_if (nat_le 1 left.room) (Ok next) 11 one.0 is.3 in
-    let room = no_more_than 1 left.room fit.0 in
-    let rest = leave next final begun (ap (λ n. all_taken n entries) (kept_same next one.0 fit.1) ∙ one.2) in
-    let none = none_behind is.1 rest.singles.hops rest.fits.max_forwards in
-    let none_held : held rest.singles.hops ≡ 0 = ap held none in
-    let less = rest.fits.room in
-    let singles : Singles = record rest.singles { hops = Some is.1 } in
-    let behind : Reads (Of headers.MaxForwards name value ∷ entries) rest.lists singles = record { via = rest.reads.via; route = rest.reads.route; record_route = rest.reads.record_route; contact = rest.reads.contact; others = rest.reads.others; from = rest.reads.from; to = rest.reads.to; call_id = rest.reads.call_id; cseq = rest.reads.cseq; max_forwards = one_value hops_of value (values_at headers.MaxForwards entries) is.1 is.2 (no_values hops_of (values_at headers.MaxForwards entries) rest.singles.hops none rest.reads.max_forwards); content_length = rest.reads.content_length } in
-    let fits : Fits left rest.lists singles = record { room = omega (arith, less, room, none_held); begun = rest.fits.begun; from = rest.fits.from; to = rest.fits.to; call_id = rest.fits.call_id; cseq = rest.fits.cseq; max_forwards = ap (λ o. are_apart o (Some is.1)) free; content_length = rest.fits.content_length } in
-    leaves_on left next final headers.MaxForwards name value entries rest.lists singles rest behind fits refl (ap (λ o. record (merged left.singles singles) { hops = o }) (sym (ap (λ o. either_of o (Some is.1)) free)))
-
-pub content_length_left : (name value : Bytes) (entries : List Entry) → Leave entries → Leave (Of headers.ContentLength name value ∷ entries)
-unfolding values_at fields_at is_kind number_at all_taken taken counted with_length count held either_of are_apart
-content_length_left name value entries leave left final begun h =
-    let one = taken_then (taken left name headers.ContentLength value) (λ next. all_taken next entries) final h in
-    let is = taken_first (is_some left.singles.length) (with_length left) (in_line number_of value) one.0 one.1 in
-    let free = none_before left.singles.length is.0 in
-    let next : Left = record left { room = left.room - 1; singles = record left.singles { length = Some is.1 } } in
-    let fit = taken_if (nat_le 1 left.room) (Ok next) 11 one.0 is.3 in
-    let room = no_more_than 1 left.room fit.0 in
-    let rest = leave next final begun (ap (λ n. all_taken n entries) (kept_same next one.0 fit.1) ∙ one.2) in
-    let none = none_behind is.1 rest.singles.length rest.fits.content_length in
-    let none_held : held rest.singles.length ≡ 0 = ap held none in
-    let less = rest.fits.room in
-    let singles : Singles = record rest.singles { length = Some is.1 } in
-    let behind : Reads (Of headers.ContentLength name value ∷ entries) rest.lists singles = record { via = rest.reads.via; route = rest.reads.route; record_route = rest.reads.record_route; contact = rest.reads.contact; others = rest.reads.others; from = rest.reads.from; to = rest.reads.to; call_id = rest.reads.call_id; cseq = rest.reads.cseq; max_forwards = rest.reads.max_forwards; content_length = one_value number_of value (values_at headers.ContentLength entries) is.1 is.2 (no_values number_of (values_at headers.ContentLength entries) rest.singles.length none rest.reads.content_length) } in
-    let fits : Fits left rest.lists singles = record { room = omega (arith, less, room, none_held); begun = rest.fits.begun; from = rest.fits.from; to = rest.fits.to; call_id = rest.fits.call_id; cseq = rest.fits.cseq; max_forwards = rest.fits.max_forwards; content_length = ap (λ o. are_apart o (Some is.1)) free } in
-    leaves_on left next final headers.ContentLength name value entries rest.lists singles rest behind fits refl (ap (λ o. record (merged left.singles singles) { length = o }) (sym (ap (λ o. either_of o (Some is.1)) free)))
+    let singles : Singles = once.put (Some is.1) rest.singles in
+    let empty = no_values once.read (values_at kind entries) (once.kept rest.singles) none (once.reads_once entries rest.lists rest.singles rest.reads) in
+    let behind = once.reads_more name value entries rest.lists rest.singles (Some is.1) rest.reads (one_value once.read value (values_at kind entries) is.1 is.2 empty) in
+    let before = once.fits_at next rest.lists rest.singles left.room (once.kept left.singles) (Some is.1) rest.fits (omega (arith, less, room, more, none_held)) (ap (λ o. are_apart o (Some is.1)) free) in
+    let fits : Fits left rest.lists singles = subst (λ (s : Singles). Fits (record left { singles = s }) rest.lists singles) (once.put_back (Some is.1) left.singles) before in
+    let all : merged next.singles rest.singles ≡ merged left.singles singles =
+    ap (merged next.singles) (sym (once.put_back (Some is.1) rest.singles)) ∙ once.merges left.singles singles (Some is.1) (once.kept rest.singles) (sym (ap (λ o. either_of o (once.kept singles)) free ∙ once.kept_put (Some is.1) rest.singles)) in
+    leaves_on left next final kind name value entries rest.lists singles rest behind fits refl all
 
 -- ## All headers
 
@@ -195,10 +109,10 @@ all_left (Of headers.Via name value ∷ more) = via_left name value more (all_le
 all_left (Of headers.Route name value ∷ more) = route_left name value more (all_left more)
 all_left (Of headers.RecordRoute name value ∷ more) = record_route_left name value more (all_left more)
 all_left (Of headers.Contact name value ∷ more) = contact_left name value more (all_left more)
-all_left (Of headers.From name value ∷ more) = from_left name value more (all_left more)
-all_left (Of headers.To name value ∷ more) = to_left name value more (all_left more)
-all_left (Of headers.CallId name value ∷ more) = call_id_left name value more (all_left more)
-all_left (Of headers.CSeq name value ∷ more) = cseq_left name value more (all_left more)
-all_left (Of headers.MaxForwards name value ∷ more) = max_forwards_left name value more (all_left more)
-all_left (Of headers.ContentLength name value ∷ more) = content_length_left name value more (all_left more)
+all_left (Of headers.From name value ∷ more) = once_left headers.From from_once name value more (all_left more)
+all_left (Of headers.To name value ∷ more) = once_left headers.To to_once name value more (all_left more)
+all_left (Of headers.CallId name value ∷ more) = once_left headers.CallId call_id_once name value more (all_left more)
+all_left (Of headers.CSeq name value ∷ more) = once_left headers.CSeq cseq_once name value more (all_left more)
+all_left (Of headers.MaxForwards name value ∷ more) = once_left headers.MaxForwards max_forwards_once name value more (all_left more)
+all_left (Of headers.ContentLength name value ∷ more) = once_left headers.ContentLength content_length_once name value more (all_left more)
 all_left (Of headers.Other name value ∷ more) = other_left name value more (all_left more)

@@ -1,5 +1,6 @@
 pub mod Entries
 pub mod Readings
+pub mod OnceLaws
 pub mod TakenLists
 pub mod TakenSingles
 pub mod EndLaws

@@ -32,7 +32,8 @@ use Rattle.sc_spelling.specs.SpelledHeads.{AreInLines, IsOnce, IsAtMostOnce, is_
 use Rattle.sc_spelling.proofs.Entries.{Entry, Of, entry_of, values_at, fields_at, all_taken, Tells, via_tells, route_tells, record_route_tells, contact_tells, from_tells, to_tells, call_id_tells, cseq_tells, max_forwards_tells, content_length_tells, same_values, same_others}
 use Rattle.sc_spelling.proofs.Readings.{ReadsAll, ReadsOnce, ReadsFields, Reads, held, either_of, are_apart, count, joined, merged, begins_so, Fits}
 use Rattle.sc_spelling.proofs.TakenLists.{Runs, via_taken, route_taken, record_route_taken, contact_taken, other_taken}
-use Rattle.sc_spelling.proofs.TakenSingles.{from_taken, to_taken, call_id_taken, cseq_taken, max_forwards_taken, content_length_taken}
+use Rattle.sc_spelling.proofs.OnceLaws.{from_once, to_once, call_id_once, cseq_once, max_forwards_once, content_length_once}
+use Rattle.sc_spelling.proofs.TakenSingles.{once_taken}
 
 -- ## All headers
 
@@ -69,12 +70,12 @@ all_run (Of headers.Via name value ∷ more) = via_taken name value more (all_ru
 all_run (Of headers.Route name value ∷ more) = route_taken name value more (all_run more)
 all_run (Of headers.RecordRoute name value ∷ more) = record_route_taken name value more (all_run more)
 all_run (Of headers.Contact name value ∷ more) = contact_taken name value more (all_run more)
-all_run (Of headers.From name value ∷ more) = from_taken name value more (all_run more)
-all_run (Of headers.To name value ∷ more) = to_taken name value more (all_run more)
-all_run (Of headers.CallId name value ∷ more) = call_id_taken name value more (all_run more)
-all_run (Of headers.CSeq name value ∷ more) = cseq_taken name value more (all_run more)
-all_run (Of headers.MaxForwards name value ∷ more) = max_forwards_taken name value more (all_run more)
-all_run (Of headers.ContentLength name value ∷ more) = content_length_taken name value more (all_run more)
+all_run (Of headers.From name value ∷ more) = once_taken headers.From from_once name value more (all_run more)
+all_run (Of headers.To name value ∷ more) = once_taken headers.To to_once name value more (all_run more)
+all_run (Of headers.CallId name value ∷ more) = once_taken headers.CallId call_id_once name value more (all_run more)
+all_run (Of headers.CSeq name value ∷ more) = once_taken headers.CSeq cseq_once name value more (all_run more)
+all_run (Of headers.MaxForwards name value ∷ more) = once_taken headers.MaxForwards max_forwards_once name value more (all_run more)
+all_run (Of headers.ContentLength name value ∷ more) = once_taken headers.ContentLength content_length_once name value more (all_run more)
 all_run (Of headers.Other name value ∷ more) = other_taken name value more (all_run more)
 
 -- ## What is spelled is read
