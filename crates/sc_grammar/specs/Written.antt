@@ -5,6 +5,7 @@ use Rattle.std.specs.Prelude.{ℕ, List, [], ◌∷◌, ◌++◌, Option, None, 
 use Rattle.std.specs.List.{flat_map}
 use Rattle.sc_tokens.specs.Bytes.{Bytes}
 use Rattle.sc_tokens.specs.HeaderNames.{via_name, route_name, record_route_name, max_forwards_name, from_name, to_name, call_id_name, cseq_name, contact_name, content_length_name}
+use Rattle.sc_tokens.specs.Signs.{at_sign, carriage_return, colon, equal, line_feed, question, semicolon, space}
 use Rattle.sc_value.specs.declared.parts.Param.{Param}
 use Rattle.sc_value.specs.declared.parts.SipUri.{SipUri}
 use Rattle.sc_value.specs.declared.parts.Uri.{Uri}
@@ -23,7 +24,7 @@ use Rattle.sc_value.specs.declared.message.Message.TheVariants as messages
 
 -- the end of a line
 unfoldable pub crlf : Bytes
-crlf = 13 ∷ 10 ∷ []
+crlf = carriage_return ∷ line_feed ∷ []
 
 -- the version of SIP (RFC 3261 section 7.1)
 unfoldable pub version : Bytes
@@ -38,7 +39,7 @@ signed_text sign (Some text) = sign ∷ text
 
 -- `;name` or `;name=value`
 unfoldable pub param_text : Param → Bytes
-param_text param = 59 ∷ (param.name ++ signed_text 61 param.value)
+param_text param = semicolon ∷ (param.name ++ signed_text equal param.value)
 
 -- each parameter behind its semicolon
 unfoldable pub params_text : List Param → Bytes
@@ -52,7 +53,7 @@ ended_text (Some text) sign = text ++ sign ∷ []
 -- `:port`, or nothing
 unfoldable pub port_text : Option ℕ → Bytes
 port_text None = []
-port_text (Some port) = 58 ∷ decimal port
+port_text (Some port) = colon ∷ decimal port
 
 -- the scheme of a SIP URI with its colon
 unfoldable pub scheme : Bytes
@@ -61,8 +62,8 @@ scheme = codes "sip:"
 -- `sip:user@host:port;params?headers`
 unfoldable pub sip_uri_text : SipUri → Bytes
 sip_uri_text uri =
-    scheme ++ ended_text uri.user 64 ++ uri.host ++ port_text uri.port ++ params_text uri.params
-    ++ signed_text 63 uri.headers
+    scheme ++ ended_text uri.user at_sign ++ uri.host ++ port_text uri.port
+    ++ params_text uri.params ++ signed_text question uri.headers
 
 -- a URI; one of another scheme stands as it came
 unfoldable pub uri_text : Uri → Bytes
@@ -72,7 +73,7 @@ uri_text (Other text) = text
 -- `display <uri>;params`, the display only where there is one
 unfoldable pub address_text : Address → Bytes
 address_text address =
-    ended_text address.display 32 ++ codes "<" ++ uri_text address.uri ++ codes ">"
+    ended_text address.display space ++ codes "<" ++ uri_text address.uri ++ codes ">"
     ++ params_text address.params
 
 -- `*`, or an address

@@ -7,12 +7,13 @@ use Rattle.sc_tokens.specs.Tokens.{is_token, is_one_line, begins_blank}
 use Rattle.sc_value.specs.declared.parts.Field.{Field}
 use Rattle.sc_tokens.specs.Bytes.{Bytes}
 use Rattle.sc_tokens.specs.Blanks.{without_blanks}
+use Rattle.sc_tokens.specs.Signs.{carriage_return, colon, line_feed}
 use Rattle.sc_syntax.specs.Folds.{with_piece}
 use Rattle.sc_syntax.specs.SpelledParts.{IsBlanks, Padded}
 
 -- the end of a line, and what stands behind it
 abbrev pub line_end_before : Bytes → Bytes
-line_end_before rest = 13 ∷ 10 ∷ rest
+line_end_before rest = carriage_return ∷ line_feed ∷ rest
 
 -- ## Folds
 
@@ -44,7 +45,7 @@ IsValue value = (is_one_line value ≡ true) × (without_blanks value ≡ value)
 abbrev pub IsFieldSpelled : Bytes → Field → Type 0
 IsFieldSpelled text field =
     (name gap rest : Bytes) × (is_token name ≡ true) × (long_name name ≡ field.name) × IsBlanks gap
-    × IsValue field.value × Padded field.value rest × (text ≡ name ++ (gap ++ 58 ∷ rest))
+    × IsValue field.value × Padded field.value rest × (text ≡ name ++ (gap ++ colon ∷ rest))
 
 -- the line, with its folds joined, is the field
 abbrev pub IsLineSpelled : Bytes → Field → Type 0

@@ -6,6 +6,7 @@ use Rattle.sc_value.specs.declared.message.Message.{Message}
 use Rattle.sc_value.specs.declared.message.Message.TheVariants.{Request, Response}
 use Rattle.sc_tokens.specs.Bytes.{Bytes}
 use Rattle.sc_tokens.specs.Numbers.{number_below}
+use Rattle.sc_tokens.specs.Signs.{space}
 use Rattle.sc_syntax.specs.SpelledUris.{IsUriSpelled}
 
 -- three digits, 100 to 699
@@ -16,13 +17,13 @@ IsCodeSpelled text code = (length text ≡ 3) × (number_below 700 text ≡ Some
 abbrev pub IsRequestLine : Bytes → Bytes → Uri → Type 0
 IsRequestLine line method target =
     (is_token method ≡ true) × (uri : Bytes) × IsUriSpelled uri target
-    × (line ≡ method ++ 32 ∷ (uri ++ 32 ∷ codes "SIP/2.0"))
+    × (line ≡ method ++ space ∷ (uri ++ space ∷ codes "SIP/2.0"))
 
 -- version, code and reason
 abbrev pub IsStatusLine : Bytes → ℕ → Bytes → Type 0
 IsStatusLine line code reason =
     (is_one_line reason ≡ true) × (digits : Bytes) × IsCodeSpelled digits code
-    × (line ≡ codes "SIP/2.0" ++ 32 ∷ (digits ++ 32 ∷ reason))
+    × (line ≡ codes "SIP/2.0" ++ space ∷ (digits ++ space ∷ reason))
 
 -- that of the message
 unfoldable pub IsStartSpelled : Bytes → Message → Type 0

@@ -17,6 +17,7 @@ use Rattle.sc_tokens.specs.Hosts.{begins, is_none_left}
 use Rattle.sc_tokens.specs.Quoted.{quoted_end}
 use Rattle.sc_syntax.specs.Uris.{uri_of}
 use Rattle.sc_tokens.specs.Blanks.{without_blanks}
+use Rattle.sc_tokens.specs.Signs.{left_angle, right_angle}
 use Rattle.sc_syntax.specs.Scanning.{address_items, address_parts, all_read}
 use Rattle.sc_syntax.specs.Parameters.{params_of}
 
@@ -26,7 +27,8 @@ Named = Option Bytes × Bytes
 
 -- behind the opening bracket: the URI up to the closing one, which ends the text
 unfoldable pub uri_in_brackets : Bytes → Option Bytes
-uri_in_brackets text = if is_none_left (after 62 text) then Some (before 62 text) else None
+uri_in_brackets text =
+    if is_none_left (after right_angle text) then Some (before right_angle text) else None
 
 -- a URI in its brackets
 unfoldable pub in_brackets : Bytes → Option Bytes
@@ -54,7 +56,8 @@ unfoldable pub named_in : Bytes → Option Named
 named_in text =
     if begins 34 text
     then option_and_then (quoted_named text) (quoted_end 0 text)
-    else option_map_or (token_named (without_blanks (before 60 text))) (after 60 text)
+    else option_map_or (token_named (without_blanks (before left_angle text)))
+    (after left_angle text)
     (Some (None, text))
 
 -- the address, where the URI is one

@@ -5,11 +5,12 @@ use Rattle.std.specs.List.{fold}
 use Rattle.sc_syntax.specs.declared.ending.Ending.TheVariants.{Any}
 use Rattle.sc_tokens.specs.Bytes.{Bytes}
 use Rattle.sc_tokens.specs.Blanks.{trimmed_back, trimmed_front}
+use Rattle.sc_tokens.specs.Signs.{space}
 use Rattle.sc_syntax.specs.Lines.{pieces_at}
 
 -- a text, and the piece that continues it
 unfoldable pub with_piece : Bytes → Bytes → Bytes
-with_piece text piece = trimmed_back text ++ 32 ∷ trimmed_front piece
+with_piece text piece = trimmed_back text ++ space ∷ trimmed_front piece
 
 -- the first piece, continued by the others
 unfoldable pub all_continued : List Bytes → Bytes

@@ -20,6 +20,7 @@ use Rattle.sc_tokens.specs.Bytes.{Bytes}
 use Rattle.sc_tokens.specs.Cuts.{before, after}
 use Rattle.sc_syntax.specs.UriParts.{Fault}
 use Rattle.sc_tokens.specs.Blanks.{trimmed_back, without_blanks}
+use Rattle.sc_tokens.specs.Signs.{colon}
 use Rattle.sc_syntax.specs.Scanning.{all_read}
 use Rattle.sc_syntax.specs.Vias.{vias_of}
 use Rattle.sc_syntax.specs.Addresses.{address_of}
@@ -35,11 +36,11 @@ use Rattle.sc_syntax.specs.Messages.{all_judged, message_in, nothing_left}
 -- the long name and the value of a line, where its name is one
 unfoldable pub field_of : Bytes → Option Field
 field_of line =
-    if is_token (trimmed_back (before 58 line))
+    if is_token (trimmed_back (before colon line))
     then option_map
     (λ value.
-    record { name = long_name (trimmed_back (before 58 line)); value = without_blanks value })
-    (after 58 line)
+    record { name = long_name (trimmed_back (before colon line)); value = without_blanks value })
+    (after colon line)
     else None
 
 -- the values of this name, in order

@@ -18,6 +18,7 @@ use Rattle.sc_tokens.specs.Bytes.{Bytes}
 use Rattle.sc_tokens.specs.Numbers.{number_of}
 use Rattle.sc_tokens.specs.Cuts.{before, after}
 use Rattle.sc_tokens.specs.Blanks.{trimmed_back, without_blanks}
+use Rattle.sc_tokens.specs.Signs.{colon}
 use Rattle.sc_syntax.specs.Vias.{vias_of}
 use Rattle.sc_syntax.specs.Addresses.{address_of, addresses_of, contacts_of}
 use Rattle.sc_syntax.specs.Sequences.{cseq_of, hops_of}
@@ -166,4 +167,5 @@ with_named_header left name value =
 -- the text of a header line: the name, perhaps blanks, a colon and the value between blanks
 unfoldable pub left_with_line : Left → Bytes → Result Left ℕ
 left_with_line left line =
-    option_map_or (with_named_header left (trimmed_back (before 58 line))) (after 58 line) (Err 6)
+    option_map_or (with_named_header left (trimmed_back (before colon line))) (after colon line)
+    (Err 6)

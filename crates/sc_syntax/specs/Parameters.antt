@@ -10,13 +10,14 @@ use Rattle.sc_value.specs.declared.parts.Param.{Param}
 use Rattle.sc_tokens.specs.Bytes.{Bytes}
 use Rattle.sc_tokens.specs.Cuts.{before, after}
 use Rattle.sc_tokens.specs.Blanks.{without_blanks}
+use Rattle.sc_tokens.specs.Signs.{equal}
 use Rattle.sc_syntax.specs.Scanning.{all_read}
 
 -- a parameter without blanks round it
 unfoldable pub param_in : Bytes → Option Param
 param_in text =
-    if is_token (before 61 text) && option_map_or is_param_text (after 61 text) true
-    then Some (record { name = before 61 text; value = after 61 text })
+    if is_token (before equal text) && option_map_or is_param_text (after equal text) true
+    then Some (record { name = before equal text; value = after equal text })
     else None
 
 -- one part between semicolons

@@ -7,6 +7,7 @@ use Rattle.sc_value.specs.declared.parts.Contact.{Contact}
 use Rattle.sc_value.specs.declared.parts.Contact.TheVariants.{Star, At}
 use Rattle.sc_tokens.specs.Bytes.{Bytes}
 use Rattle.sc_tokens.specs.Cuts.{has}
+use Rattle.sc_tokens.specs.Signs.{comma, left_angle, semicolon}
 use Rattle.sc_syntax.specs.SpelledUris.{IsUriSpelled}
 use Rattle.sc_syntax.specs.SpelledParts.{IsBlanks, Padded, AreListed, AreParamsSpelled}
 
@@ -14,13 +15,13 @@ use Rattle.sc_syntax.specs.SpelledParts.{IsBlanks, Padded, AreListed, AreParamsS
 abbrev pub IsNamedSpelled : Bytes → Address → Type 0
 IsNamedSpelled text address =
     IsDisplay address.display × (gap uri : Bytes) × IsBlanks gap × IsUriSpelled uri address.uri
-    × (text ≡ unwrap_or address.display [] ++ (gap ++ 60 ∷ (uri ++ codes ">")))
+    × (text ≡ unwrap_or address.display [] ++ (gap ++ left_angle ∷ (uri ++ codes ">")))
 
 -- a URI without semicolon and, in a list, without comma
 abbrev pub IsBareSpelled : Bool → Bytes → Address → Type 0
 IsBareSpelled listed text address =
-    (address.display ≡ None) × IsUriSpelled text address.uri × (has 59 text ≡ false)
-    × ((listed && has 44 text) ≡ false)
+    (address.display ≡ None) × IsUriSpelled text address.uri × (has semicolon text ≡ false)
+    × ((listed && has comma text) ≡ false)
 
 -- one of both, and the parameters
 abbrev pub IsAddressIn : Bool → Bytes → Address → Type 0
@@ -34,7 +35,7 @@ IsAddressSpelled text address = IsAddressIn false text address
 
 -- those of Route and Record-Route
 abbrev pub AreAddressesSpelled : Bytes → List Address → Type 0
-AreAddressesSpelled text addresses = AreListed 44 (IsAddressIn true) text addresses
+AreAddressesSpelled text addresses = AreListed comma (IsAddressIn true) text addresses
 
 -- an item of Contact
 unfoldable pub IsContactSpelled : Bytes → Contact → Type 0
@@ -43,4 +44,4 @@ IsContactSpelled text (At address) = IsAddressIn true text address
 
 -- the items of Contact
 abbrev pub AreContactsSpelled : Bytes → List Contact → Type 0
-AreContactsSpelled text contacts = AreListed 44 IsContactSpelled text contacts
+AreContactsSpelled text contacts = AreListed comma IsContactSpelled text contacts

@@ -5,6 +5,7 @@ use Rattle.std.specs.List.{list_all}
 use Rattle.sc_tokens.specs.Tokens.{is_blank}
 use Rattle.sc_value.specs.declared.parts.Param.{Param}
 use Rattle.sc_tokens.specs.Bytes.{Bytes}
+use Rattle.sc_tokens.specs.Signs.{equal, semicolon}
 use Rattle.sc_syntax.specs.SpelledUris.{behind_sign}
 use Rattle.sc_value.specs.ParamRules.{IsHeaderParam}
 
@@ -34,7 +35,7 @@ AreListed sign Spells text (x ∷ xs) =
 
 -- `name` or `name=value`
 unfoldable pub header_param : Param → Bytes
-header_param param = param.name ++ behind_sign 61 param.value
+header_param param = param.name ++ behind_sign equal param.value
 
 -- a header parameter, with blanks round it or none
 abbrev pub IsParamSpelled : Bytes → Param → Type 0
@@ -42,4 +43,4 @@ IsParamSpelled text param = IsHeaderParam param × Padded (header_param param) t
 
 -- nothing, or a semicolon before each
 abbrev pub AreParamsSpelled : Bytes → List Param → Type 0
-AreParamsSpelled text params = AreLed 59 IsParamSpelled text params
+AreParamsSpelled text params = AreLed semicolon IsParamSpelled text params

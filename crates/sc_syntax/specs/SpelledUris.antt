@@ -10,6 +10,7 @@ use Rattle.sc_value.specs.declared.parts.Uri.{Uri}
 use Rattle.sc_value.specs.declared.parts.Uri.TheVariants.{Sip, Other}
 use Rattle.sc_tokens.specs.Bytes.{Bytes}
 use Rattle.sc_tokens.specs.Numbers.{port_of}
+use Rattle.sc_tokens.specs.Signs.{at_sign, colon, equal, question, semicolon}
 use Rattle.sc_value.specs.UriValues.{IsSipUri}
 
 -- nothing, or the sign and the text
@@ -26,23 +27,23 @@ closed_by sign (Some text) = text ++ sign ∷ []
 unfoldable pub IsPortSpelled : Bytes → Option ℕ → Type 0
 IsPortSpelled text None = text ≡ []
 IsPortSpelled text (Some port) =
-    (digits : Bytes) × (port_of digits ≡ Some port) × (text ≡ 58 ∷ digits)
+    (digits : Bytes) × (port_of digits ≡ Some port) × (text ≡ colon ∷ digits)
 
 -- `;name` or `;name=value`
 unfoldable pub spelled_param : Param → Bytes
-spelled_param param = 59 ∷ (param.name ++ behind_sign 61 param.value)
+spelled_param param = semicolon ∷ (param.name ++ behind_sign equal param.value)
 
 -- the text behind the user, with this spelling of the port
 abbrev pub spelled_behind : SipUri → Bytes → Bytes
 spelled_behind uri port =
-    uri.host ++ (port ++ (flat_map spelled_param uri.params ++ behind_sign 63 uri.headers))
+    uri.host ++ (port ++ (flat_map spelled_param uri.params ++ behind_sign question uri.headers))
 
 -- a `sip:` URI
 abbrev pub IsSipSpelled : Bytes → SipUri → Type 0
 IsSipSpelled text uri =
     IsSipUri uri × (scheme port : Bytes) × (same_name scheme sip_scheme ≡ true)
     × IsPortSpelled port uri.port
-    × (text ≡ scheme ++ 58 ∷ (closed_by 64 uri.user ++ spelled_behind uri port))
+    × (text ≡ scheme ++ colon ∷ (closed_by at_sign uri.user ++ spelled_behind uri port))
 
 -- the text spells the URI
 unfoldable pub IsUriSpelled : Bytes → Uri → Type 0

@@ -5,6 +5,7 @@ use Rattle.sc_tokens.specs.Tokens.{is_token}
 use Rattle.sc_value.specs.declared.parts.Via.{Via}
 use Rattle.sc_tokens.specs.Bytes.{Bytes}
 use Rattle.sc_tokens.specs.Hosts.{is_host}
+use Rattle.sc_tokens.specs.Signs.{comma, slash}
 use Rattle.sc_syntax.specs.SpelledUris.{IsPortSpelled}
 use Rattle.sc_syntax.specs.SpelledParts.{IsBlanks, Padded, AreListed, AreParamsSpelled}
 
@@ -20,8 +21,8 @@ abbrev pub IsViaSpelled : Bytes → Via → Type 0
 IsViaSpelled text via =
     (name version inner hop rest : Bytes) × Padded (codes "SIP") name × Padded (codes "2.0") version
     × IsHopSpelled inner via × Padded inner hop × AreParamsSpelled rest via.params
-    × (text ≡ name ++ 47 ∷ (version ++ 47 ∷ (hop ++ rest)))
+    × (text ≡ name ++ slash ∷ (version ++ slash ∷ (hop ++ rest)))
 
 -- Vias with commas between
 abbrev pub AreViasSpelled : Bytes → List Via → Type 0
-AreViasSpelled text vias = AreListed 44 IsViaSpelled text vias
+AreViasSpelled text vias = AreListed comma IsViaSpelled text vias

@@ -10,6 +10,7 @@ use Rattle.sc_syntax.specs.declared.left.Start.TheVariants.{Request, Status}
 use Rattle.sc_tokens.specs.Bytes.{Bytes}
 use Rattle.sc_tokens.specs.Numbers.{number_below}
 use Rattle.sc_tokens.specs.Cuts.{has, before, after}
+use Rattle.sc_tokens.specs.Signs.{carriage_return, line_feed, space}
 use Rattle.sc_syntax.specs.Uris.{uri_of}
 
 -- `SIP/2.0`, with these letters
@@ -19,7 +20,7 @@ is_version text = same_bytes text (codes "SIP/2.0")
 -- method, Request-URI and version, with one space between each
 unfoldable pub request_in : Bytes → Bytes → Bytes → Result Start ℕ
 request_in method uri version =
-    if has 32 version then Err 1
+    if has space version then Err 1
     else if not (is_version version) then Err 2
     else if not (is_token method) then Err 3
     else option_map_or (λ target. Ok (Request method target)) (result_ok (uri_of uri)) (Err 4)
@@ -27,11 +28,11 @@ request_in method uri version =
 -- the method, and what stands behind the first space
 unfoldable pub request_behind : Bytes → Bytes → Result Start ℕ
 request_behind method rest =
-    option_map_or (request_in method (before 32 rest)) (after 32 rest) (Err 1)
+    option_map_or (request_in method (before space rest)) (after space rest) (Err 1)
 
 -- a request line, or the kind of its fault (RFC 3261 section 7.1)
 unfoldable pub request_of : Bytes → Result Start ℕ
-request_of line = option_map_or (request_behind (before 32 line)) (after 32 line) (Err 1)
+request_of line = option_map_or (request_behind (before space line)) (after space line) (Err 1)
 
 -- a number of three digits that isn't below 100
 unfoldable pub at_least_100 : ℕ → Option ℕ
@@ -52,11 +53,11 @@ status_in version code reason =
 -- the version, and what stands behind the first space
 unfoldable pub status_behind : Bytes → Bytes → Result Start ℕ
 status_behind version rest =
-    option_map_or (status_in version (before 32 rest)) (after 32 rest) (Err 1)
+    option_map_or (status_in version (before space rest)) (after space rest) (Err 1)
 
 -- a status line, or the kind of its fault (RFC 3261 section 7.2)
 unfoldable pub status_of : Bytes → Result Start ℕ
-status_of line = option_map_or (status_behind (before 32 line)) (after 32 line) (Err 1)
+status_of line = option_map_or (status_behind (before space line)) (after space line) (Err 1)
 
 -- the line is a status line, or tries to be
 unfoldable pub is_status_line : Bytes → Bool
@@ -64,7 +65,7 @@ is_status_line line = same_name (take 4 line) (codes "SIP/")
 
 -- CR or LF stands in the line
 unfoldable pub is_broken : Bytes → Bool
-is_broken line = has 13 line || has 10 line
+is_broken line = has carriage_return line || has line_feed line
 
 -- the start line, or the kind of its fault
 unfoldable pub start_of : Bytes → Result Start ℕ

@@ -7,6 +7,7 @@ use Rattle.sc_tokens.specs.Bytes.{Bytes, is_open}
 use Rattle.sc_tokens.specs.Numbers.{port_of}
 use Rattle.sc_tokens.specs.Cuts.{before, after, pieces}
 use Rattle.sc_tokens.specs.Hosts.{begins, is_host, host_len}
+use Rattle.sc_tokens.specs.Signs.{equal, semicolon}
 
 -- where the first part at fault begins, and which part it is: 1 the scheme, 2 the host, 3 the
 -- port, 4 a parameter or the headers
@@ -60,8 +61,8 @@ sent_at at text =
 -- `name` or `name=value`, at this place
 unfoldable pub param_at : ℕ → Bytes → Result Param Fault
 param_at at text =
-    if is_param_name (before 61 text) && is_param_value (after 61 text)
-    then Ok (record { name = before 61 text; value = after 61 text })
+    if is_param_name (before equal text) && is_param_value (after equal text)
+    then Ok (record { name = before equal text; value = after equal text })
     else Err (param_fault at)
 
 -- the parameters with semicolons between, of which the first stands at this place
@@ -74,7 +75,7 @@ params_in at (text ∷ more) =
 -- none, or those after the first semicolon
 unfoldable pub params_at : ℕ → Option Bytes → Result (List Param) Fault
 params_at at None = Ok []
-params_at at (Some text) = params_in at (pieces 59 text)
+params_at at (Some text) = params_in at (pieces semicolon text)
 
 -- ## Headers
 

@@ -7,25 +7,26 @@ use Rattle.sc_value.specs.declared.parts.Uri.{Uri}
 use Rattle.sc_value.specs.declared.parts.Uri.TheVariants.{Sip, Other}
 use Rattle.sc_tokens.specs.Bytes.{Bytes, is_open}
 use Rattle.sc_tokens.specs.Cuts.{before, after}
+use Rattle.sc_tokens.specs.Signs.{at_sign, colon, question, semicolon}
 use Rattle.sc_syntax.specs.UriParts.{Fault, scheme_fault, host_fault, then_read, sent_at, params_at, headers_at}
 
 -- ## The parts of a `sip:` URI, whole
 
 -- the user with its password: what stands before the first @, where there is one
 unfoldable pub user_in : Bytes → Option Bytes
-user_in text = option_map (λ _. before 64 text) (after 64 text)
+user_in text = option_map (λ _. before at_sign text) (after at_sign text)
 
 -- what stands behind it
 unfoldable pub behind_user : Bytes → Bytes
-behind_user text = unwrap_or (after 64 text) text
+behind_user text = unwrap_or (after at_sign text) text
 
 -- host and port
 unfoldable pub sent_in : Bytes → Bytes
-sent_in text = before 59 (before 63 text)
+sent_in text = before semicolon (before question text)
 
 -- what stands after the first semicolon before the headers
 unfoldable pub params_text_in : Bytes → Option Bytes
-params_text_in text = after 59 (before 63 text)
+params_text_in text = after semicolon (before question text)
 
 -- ## Reading
 
@@ -34,7 +35,7 @@ unfoldable pub sip_behind : ℕ → Option Bytes → Bytes → Result Uri Fault
 sip_behind at user text =
     then_read (sent_at at (sent_in text)) (λ sent.
     then_read (params_at (at + length (sent_in text) + 1) (params_text_in text)) (λ params.
-    then_read (headers_at (at + length (before 63 text) + 1) (after 63 text)) (λ headers.
+    then_read (headers_at (at + length (before question text) + 1) (after question text)) (λ headers.
     Ok
     (Sip
     (record { user = user; host = sent.0; port = sent.1; params = params; headers = headers })))))
@@ -60,6 +61,6 @@ uri_behind text scheme rest =
 -- first @ of the whole text
 unfoldable pub uri_of : Bytes → Result Uri Fault
 uri_of text =
-    if is_scheme (before 58 text)
-    then option_map_or (uri_behind text (before 58 text)) (after 58 text) (Err scheme_fault)
+    if is_scheme (before colon text)
+    then option_map_or (uri_behind text (before colon text)) (after colon text) (Err scheme_fault)
     else Err scheme_fault

@@ -12,13 +12,14 @@ use Rattle.sc_tokens.specs.Bytes.{Bytes}
 use Rattle.sc_tokens.specs.Cuts.{before, after}
 use Rattle.sc_syntax.specs.UriParts.{sent_at}
 use Rattle.sc_tokens.specs.Blanks.{behind_word, first_word, without_blanks}
+use Rattle.sc_tokens.specs.Signs.{slash}
 use Rattle.sc_syntax.specs.Scanning.{via_items, via_parts, all_read}
 use Rattle.sc_syntax.specs.Parameters.{params_of}
 
 -- what stands behind the first slash, where this word stands before it
 unfoldable pub behind_slash : Bytes → Bytes → Option Bytes
 behind_slash word text =
-    if same_bytes (without_blanks (before 47 text)) word then after 47 text else None
+    if same_bytes (without_blanks (before slash text)) word then after slash text else None
 
 -- what stands behind `SIP/2.0/`
 unfoldable pub behind_version : Bytes → Option Bytes

@@ -7,6 +7,7 @@ use Rattle.std.specs.Option.{option_map, option_map_or}
 use Rattle.sc_tokens.specs.Bytes.{Bytes, is_host_byte}
 use Rattle.sc_tokens.specs.Numbers.{number_below}
 use Rattle.sc_tokens.specs.Cuts.{pieces, before, after}
+use Rattle.sc_tokens.specs.Signs.{colon, dot, right_bracket}
 
 -- one or more bytes of a host's name
 unfoldable pub is_host_name : Bytes → Bool
@@ -24,7 +25,7 @@ is_octet text = is_some (number_below 256 text) && (length text == 1 || not (beg
 
 -- four of them with dots between
 unfoldable pub is_ipv4 : Bytes → Bool
-is_ipv4 text = length (pieces 46 text) == 4 && list_all is_octet (pieces 46 text)
+is_ipv4 text = length (pieces dot text) == 4 && list_all is_octet (pieces dot text)
 
 -- ## IPv6 addresses
 
@@ -51,7 +52,7 @@ groups_in ipv4 (piece ∷ more) =
 
 -- the groups of a text with colons between; the empty text has none
 unfoldable pub groups : Bool → Bytes → Option ℕ
-groups ipv4 text = if length text == 0 then Some 0 else groups_in ipv4 (pieces 58 text)
+groups ipv4 text = if length text == 0 then Some 0 else groups_in ipv4 (pieces colon text)
 
 -- two colons stand at the front
 unfoldable pub begins_gap : Bytes → Bool
@@ -85,7 +86,7 @@ is_none_left rest = option_map_or (λ text. length text == 0) rest false
 
 -- after the opening bracket: an address, its closing bracket and no more
 unfoldable pub is_literal_end : Bytes → Bool
-is_literal_end text = is_none_left (after 93 text) && is_ipv6 (before 93 text)
+is_literal_end text = is_none_left (after right_bracket text) && is_ipv6 (before right_bracket text)
 
 -- a name, or an IPv6 literal in its brackets
 unfoldable pub is_host : Bytes → Bool

@@ -9,3 +9,4 @@ pub mod Hosts
 pub mod Quoted
 pub mod UriTokens
 pub mod HeaderTokens
+pub mod Signs

@@ -6,6 +6,7 @@ use Rattle.std.specs.Char.{is_ascii_alphabetic}
 use Rattle.sc_tokens.specs.Names.{same_name}
 use Rattle.sc_tokens.specs.Bytes.{Bytes, is_param_byte, is_scheme_byte, is_open}
 use Rattle.sc_tokens.specs.Cuts.{has}
+use Rattle.sc_tokens.specs.Signs.{at_sign, colon}
 
 -- bytes of a parameter, one or more
 unfoldable pub is_param_name : Bytes → Bool
@@ -26,12 +27,12 @@ sip_scheme = codes "sip"
 
 -- a user ends at the first @, so it has none; without a user nothing has one
 unfoldable pub IsUser : Option Bytes → Option Bytes → Type 0
-IsUser (Some user) headers = (is_open user ≡ true) × (has 64 user ≡ false)
+IsUser (Some user) headers = (is_open user ≡ true) × (has at_sign user ≡ false)
 IsUser None None = ⊤
-IsUser None (Some headers) = has 64 headers ≡ false
+IsUser None (Some headers) = has at_sign headers ≡ false
 
 -- a URI of another scheme
 abbrev pub IsOtherSpelled : Bytes → Bytes → Type 0
 IsOtherSpelled text other =
     (text ≡ other) × (is_open text ≡ true) × (scheme rest : Bytes) × (is_scheme scheme ≡ true)
-    × (same_name scheme sip_scheme ≡ false) × (text ≡ scheme ++ 58 ∷ rest)
+    × (same_name scheme sip_scheme ≡ false) × (text ≡ scheme ++ colon ∷ rest)
