@@ -3,6 +3,7 @@ use Rattle.std.specs.Prelude.{◌≡◌, ℕ, ◌<◌, ◌^◌, false, ◌∷◌
 use Rattle.std.specs.List.{list_any}
 use Rattle.sc_value.specs.declared.ids.AppId.{AppId}
 use Rattle.sc_tokens.specs.Bytes.{Bytes}
+use Rattle.sc_tokens.specs.Signs.{hyphen}
 
 -- the answer is the one value in range whose text the bytes are, and none where they are the text
 -- of none
@@ -37,4 +38,4 @@ two_with_sign sign p = p.0 ++ sign ∷ p.1
 
 -- two numbers with `-` between them
 abbrev pub pair_text : ℕ × ℕ → Bytes
-pair_text p = decimal p.0 ++ 45 ∷ decimal p.1
+pair_text p = decimal p.0 ++ hyphen ∷ decimal p.1
