@@ -14,6 +14,7 @@ use Rattle.sc_value.specs.declared.message.Head.{Head}
 use Rattle.sc_value.specs.declared.message.Request.{Request}
 use Rattle.sc_value.specs.declared.message.Message.TheVariants as messages
 use Rattle.sc_tokens.specs.Bytes.{Bytes}
+use Rattle.sc_tokens.specs.Signs.{line_feed}
 use Rattle.sc_grammar.specs.Written.{text_of_message}
 use Rattle.sc_model.specs.SessionStates.{ack, bye, invite}
 use Rattle.sc_value.specs.Params.{tag_name, branch_name}
@@ -190,11 +191,11 @@ tick_word = codes "tick "
 
 -- time goes on to this moment, in milliseconds
 unfoldable pub tick_line : ℕ → Bytes
-tick_line now = tick_word ++ decimal now ++ 10 ∷ []
+tick_line now = tick_word ++ decimal now ++ line_feed ∷ []
 
 -- these bytes come on connection 1
 unfoldable pub arriving_text : Bytes → Bytes
-arriving_text text = in_word ++ decimal (length text) ++ 10 ∷ [] ++ text ++ 10 ∷ []
+arriving_text text = in_word ++ decimal (length text) ++ line_feed ∷ [] ++ text ++ line_feed ∷ []
 
 -- this message comes on connection 1, and turns are taken
 unfoldable pub arrives : Request → Bytes

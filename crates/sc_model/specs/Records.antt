@@ -5,6 +5,7 @@ use Rattle.sc_value.specs.declared.ids.Place.{Place}
 use Rattle.sc_value.specs.declared.ids.Place.TheVariants.{Back, To}
 use Rattle.sc_value.specs.declared.message.Sent.{Sent}
 use Rattle.sc_tokens.specs.Bytes.{Bytes}
+use Rattle.sc_tokens.specs.Signs.{line_feed}
 use Rattle.sc_grammar.specs.Written.{text_of_message}
 
 -- `a.b.c.d`
@@ -24,13 +25,13 @@ out_word = codes "out "
 
 -- `out PLACE N`, and a line feed
 unfoldable pub record_line : Place → ℕ → Bytes
-record_line place size = out_word ++ place_text place ++ codes " " ++ decimal size ++ 10 ∷ []
+record_line place size = out_word ++ place_text place ++ codes " " ++ decimal size ++ line_feed ∷ []
 
 -- the line, the message's bytes and a line feed
 unfoldable pub record_text : Sent → Bytes
 record_text sent =
     record_line sent.place (length (text_of_message sent.message)) ++ text_of_message sent.message
-    ++ 10 ∷ []
+    ++ line_feed ∷ []
 
 -- what a run writes of all that it sent, in the order of sending
 unfoldable pub records : List Sent → Bytes
@@ -43,4 +44,5 @@ end_word = codes "end "
 -- `end STEPS SENT LIVE`, and a line feed
 unfoldable pub end_text : ℕ → ℕ → ℕ → Bytes
 end_text steps sent live =
-    end_word ++ decimal steps ++ codes " " ++ decimal sent ++ codes " " ++ (decimal live ++ 10 ∷ [])
+    end_word ++ decimal steps ++ codes " " ++ decimal sent ++ codes " "
+    ++ (decimal live ++ line_feed ∷ [])
