@@ -35,7 +35,8 @@ unfoldable pub sip_behind : ℕ → Option Bytes → Bytes → Result Uri Fault
 sip_behind at user text =
     then_read (sent_at at (sent_in text)) (λ sent.
     then_read (params_at (at + length (sent_in text) + 1) (params_text_in text)) (λ params.
-    then_read (headers_at (at + length (before question text) + 1) (after question text)) (λ headers.
+    then_read (headers_at (at + length (before question text) + 1) (after question text))
+    (λ headers.
     Ok
     (Sip
     (record { user = user; host = sent.0; port = sent.1; params = params; headers = headers })))))
