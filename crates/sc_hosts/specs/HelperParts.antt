@@ -20,10 +20,6 @@ use Rattle.sc_hosts.specs.Looking.{timer_in}
 
 -- ## Texts
 
--- two texts are the same bytes
-abbrev pub text_is : Bytes → Bytes → Bool
-text_is a b = same_bytes a b
-
 -- a decimal without leading zero
 unfoldable pub strict_number : Bytes → Option ℕ
 strict_number text =
