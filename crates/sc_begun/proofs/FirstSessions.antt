@@ -100,7 +100,6 @@ module _ {S : Type 0} (Good : S → Type 0) where
     same = λ net all. all;
     after = λ x y z p q all. q (p all);
     posts = λ net wire sent all. all;
-    ticks = λ net now all. all;
     places = λ number count host changed net is goes all. all-nth AreGood number (λ _. changed) net.hosts (λ x at. same-host x host changed (host_at number net) at is goes) all;
   }
 
@@ -164,7 +163,7 @@ module _ {S : Type 0} (Good : S → Type 0) where
     stepped-keeps (steps.In from message) net = arrived-keeps H Keeps host-law net-law form begun-goes setup from message net
     stepped-keeps (steps.Bad from bad) net = bad_by-walks H Keeps host-law net-law setup.config from bad.heads net
     stepped-keeps (steps.Lost place) net = lost-walks H Keeps host-law net-law setup.config place net
-    stepped-keeps (steps.Tick now) net = ticked-walks H Keeps host-law net-law form setup.config now net
+    stepped-keeps (steps.Tick now) net = ticked-walks H Keeps host-law net-law (λ net now all. all) form setup.config now net
     stepped-keeps (steps.Turn end app event now made) net = turns-keep app _ now made end net
     stepped-keeps (steps.Withdraw app) net = withdrawn-keeps app _ net
 

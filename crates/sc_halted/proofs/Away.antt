@@ -45,6 +45,7 @@ use Rattle.sc_hosts.specs.Words.{does_not_exist, unavailable}
 use Rattle.sc_lives.specs.Numbers.{AreNumbered}
 use Rattle.sc_lives.proofs.HostCounts.{change_host-hosts, obeyed-hosts}
 use Rattle.sc_lives.proofs.NumberedNets.{obeyed-numbered}
+use Rattle.sc_walks.proofs.AnyChange.{AnyChange, any-hosts}
 use Rattle.sc_walks.proofs.WalkNets.{delivered-walks, obeyed-walks}
 use Rattle.sc_walks.proofs.WalkSteps.{with_ready-walks}
 use Rattle.sc_once.specs.Growing.{GoneIn, HostGrows as CountGrows, KnownIn, NetGrows as NetCounts}
@@ -66,7 +67,7 @@ use Rattle.sc_hops.proofs.Carried.{obeyed-holds}
 use Rattle.sc_hops.proofs.OneTurn.{none-on-way}
 use Rattle.sc_stopped.proofs.Stops.{gone-at as none-lives, none-from}
 use Rattle.sc_ways.proofs.Counts.{AreWithin, H as RisesAt, Rises, closed_turn-rises, hosts as rise-hosts, nets as rise-nets, same-last, small-net}
-use Rattle.sc_ways.proofs.Epochs.{H as EpochAt, P as SameEpoch, closed_turn-epoch, hosts as epoch-hosts, nets as epoch-nets}
+use Rattle.sc_ways.proofs.Epochs.{SameEpoch, closed_turn-epoch, epoch-nets}
 use Rattle.sc_ways.proofs.Got.{small-sessions}
 use Rattle.sc_ways.proofs.Waits.{events-live}
 use Rattle.sc_onward.proofs.Clean.{CleanNet, Goes, IsApartFrom, change-goes, closed-goes, obey-goes, obeyed-goes}
@@ -185,7 +186,7 @@ module _ (setup : Setup) (net : Net Session) (app : AppId) (live : Live Session)
     rises-of given n = obeyed-walks RisesAt Rises rise-hosts rise-nets setup app given n
 
     epoch-of : (given : List Order) (n : Net Session) → (obeyed setup app given n).epoch ≡ n.epoch
-    epoch-of given n = obeyed-walks (EpochAt as_session setup) (SameEpoch as_session setup) (epoch-hosts as_session setup) (epoch-nets as_session setup) setup app given n
+    epoch-of given n = obeyed-walks AnyChange SameEpoch any-hosts epoch-nets setup app given n
 
     first-rises : Rises Start Moved
     first-rises = same-last app.host Move Start (λ host. refl)
@@ -300,7 +301,7 @@ module _ (setup : Setup) (net : Net Session) (app : AppId) (live : Live Session)
       n3-stands = record {
         numbered = closed-numbered to setup app (Done setup net app live waiting event now made end) Ends N1 n1-numbered;
         within = three-rises.within (one-rises.within n0-within);
-        at = closed_turn-epoch as_session setup app (Done setup net app live waiting event now made end) Ends N1 ∙ (n1-epoch ∙ n0-epoch);
+        at = closed_turn-epoch setup app (Done setup net app live waiting event now made end) Ends N1 ∙ (n1-epoch ∙ n0-epoch);
         few = subst (λ (n : ℕ). n ≤ 2 ^ 64) (sym n3-hosts) n0-few;
         known = closed-known to setup app (Done setup net app live waiting event now made end) Ends N1 n1-known;
         clean = n3-clean;

@@ -42,7 +42,8 @@ use Rattle.sc_hosts.specs.Taking.{takes}
 use Rattle.sc_hosts.specs.TakingResponses.{cancelling, response_for, response_to, take_response, take_provisional as told, told_by, with_reply}
 use Rattle.sc_hosts.specs.Transacting.{branch_of, client_for, is_answered_by, is_cancel_client, is_over, method_of, out_of_client, pass_client, state_of_client, takes_from, without_ended, top_via, with_client}
 use Rattle.sc_hosts.proofs.Deliveries.{one-delivery}
-use Rattle.sc_walks.proofs.WalkNets.{delivered-walks}
+use Rattle.sc_walks.proofs.AnyChange.{AnyChange, any-hosts}
+use Rattle.sc_walks.proofs.WalkNets.{deliver_first-walks, delivered-walks}
 use Rattle.sc_once.specs.Growing.{HostGrows as CountGrows, KnownIn, NetGrows as NetCounts}
 use Rattle.sc_once.proofs.GrowingHosts.{grow-hosts as count-hosts}
 use Rattle.sc_once.proofs.GrowingNets.{grow-nets as count-nets}
@@ -54,10 +55,10 @@ use Rattle.sc_waits.proofs.GrowingNets.{grow-nets}
 use Rattle.sc_reached.proofs.Reaching.{at-host, placed-here, serial-is, with-inbox}
 use Rattle.sc_keyed.specs.Keyed.{IsIn, IsOn}
 use Rattle.sc_ways.proofs.Counts.{H as RisesAt, Rises, hosts as rise-hosts, nets as rise-nets}
-use Rattle.sc_ways.proofs.Epochs.{H as EpochAt, P as SameEpoch, hosts as epoch-hosts, nets as epoch-nets}
+use Rattle.sc_ways.proofs.Epochs.{SameEpoch, epoch-nets}
 use Rattle.sc_ways.proofs.Waits.{events-live}
 use Rattle.sc_ways.proofs.OwnBranches.{branch-is}
-use Rattle.sc_onward.proofs.Delivered.{busy-is, first-walks}
+use Rattle.sc_onward.proofs.Delivered.{busy-is}
 use Rattle.sc_halted.proofs.Apart.{Other, Right, clash, last-of, same-digit, same-self}
 use Rattle.sc_halted.proofs.ApartNets.{AllWell, FreeEntry, first-moves}
 
@@ -275,8 +276,8 @@ module _ (setup : Setup) (epoch : ℕ) (app : AppId) (branch now place : ℕ) (s
       standing-next : (net : Net Session) (entry : Entry) (rest : List Entry) → net.wire ≡ entry ∷ rest → FreeEntry Salt epoch C fresh entry → Standing net → Standing (Next net)
       standing-next net entry rest is free standing = record {
         wells = (first-moves Salt epoch C fresh (Unit {0}) setup entry rest net refl standing.at is free standing.wells).well;
-        at = first-walks (EpochAt as_session setup) (SameEpoch as_session setup) (epoch-hosts as_session setup) (epoch-nets as_session setup) as_session tt setup net ∙ standing.at;
-        known = (first-walks (λ number now. CountGrows {S = Session} app.serial) (NetCounts app) (count-hosts app.serial) (count-nets app) as_session tt setup net).known standing.known;
+        at = deliver_first-walks AnyChange SameEpoch any-hosts epoch-nets as_session tt setup net ∙ standing.at;
+        known = (deliver_first-walks (λ number now. CountGrows {S = Session} app.serial) (NetCounts app) (count-hosts app.serial) (count-nets app) as_session tt setup net).known standing.known;
       }
 
       -- behind others on the wire
@@ -289,5 +290,5 @@ module _ (setup : Setup) (epoch : ℕ) (app : AppId) (branch now place : ℕ) (s
           let same : End net ≡ End next = one-delivery as_session setup net (busy-is net entry (front ++ It-back ∷ rest) is) in
           let moves = first-moves Salt epoch C fresh (Unit {0}) setup entry (front ++ It-back ∷ rest) net refl standing.at is free.0 standing.wells in
           let wire : next.wire ≡ front ++ It-back ∷ (rest ++ moves.more) = moves.wire ∙ append_assoc front (It-back ∷ rest) moves.more in
-          told-lower net.count next.count last (first-walks RisesAt Rises rise-hosts rise-nets as_session tt setup net).count
+          told-lower net.count next.count last (deliver_first-walks RisesAt Rises rise-hosts rise-nets as_session tt setup net).count
           (back-told front next (rest ++ moves.more) wire free.1 (standing-next net entry (front ++ It-back ∷ rest) is free.0 standing) last (subst (λ (n : Net Session). live_at app n ≡ Some last) same ends))

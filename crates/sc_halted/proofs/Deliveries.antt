@@ -38,11 +38,13 @@ use Rattle.sc_keyed.specs.Keyed.{IsOn}
 use Rattle.sc_hops.specs.Hops.{IsOnWay}
 use Rattle.sc_stopped.specs.Stopped.{IsFirstTo, answer_back, net_with_return as returned}
 use Rattle.sc_stopped.proofs.Stops.{full-back, gone-back}
+use Rattle.sc_walks.proofs.AnyChange.{AnyChange, any-hosts}
+use Rattle.sc_walks.proofs.WalkNets.{deliver_first-walks}
 use Rattle.sc_ways.proofs.Counts.{H as RisesAt, Rises, hosts as rise-hosts, nets as rise-nets, small-net}
-use Rattle.sc_ways.proofs.Epochs.{H as EpochAt, P as SameEpoch, hosts as epoch-hosts, nets as epoch-nets}
+use Rattle.sc_ways.proofs.Epochs.{SameEpoch, epoch-nets}
 use Rattle.sc_ways.proofs.Got.{small-sessions}
 use Rattle.sc_onward.proofs.Clean.{IsApartFrom, first-goes}
-use Rattle.sc_onward.proofs.Delivered.{Arrives, Stands, busy-is, delivered-events, first-hosts, first-walks, grown-list, grows, next-more, rises, stands-next, unclaimed-is}
+use Rattle.sc_onward.proofs.Delivered.{Arrives, Stands, busy-is, delivered-events, first-hosts, grown-list, grows, next-more, rises, stands-next, unclaimed-is}
 use Rattle.sc_halted.specs.Halted.{IsAnsweredBack, IsFoundFull, after_deliveries, entry_of}
 use Rattle.sc_halted.proofs.ApartNets.{FreeEntry, first-moves}
 use Rattle.sc_halted.proofs.Back.{C, It-back, Standing, Told, back-told, fresh, told-lower}
@@ -226,8 +228,8 @@ module _ (setup : Setup) (epoch : ℕ) (app : AppId) (branch now : ℕ) (sent : 
         (later.tells on other free-front.1 (all-both Free back more free-back free-more)
         (record {
           wells = moves.well;
-          at = first-walks (EpochAt as_session setup) (SameEpoch as_session setup) (epoch-hosts as_session setup) (epoch-nets as_session setup) as_session tt setup net ∙ waits.at;
-          known = (first-walks (λ number now. CountGrows {S = Session} app.serial) (NetCounts app) (count-hosts app.serial) (count-nets app) as_session tt setup net).known waits.known;
+          at = deliver_first-walks AnyChange SameEpoch any-hosts epoch-nets as_session tt setup net ∙ waits.at;
+          known = (deliver_first-walks (λ number now. CountGrows {S = Session} app.serial) (NetCounts app) (count-hosts app.serial) (count-nets app) as_session tt setup net).known waits.known;
         }) last (subst (λ (n : Net Session). live_at app n ≡ Some last) same ends));
   }
 
@@ -238,7 +240,7 @@ module _ (setup : Setup) (epoch : ℕ) (app : AppId) (branch now : ℕ) (sent : 
   dead-before : (net : Net Session) (found : Option (Live Session)) → live_at to net ≡ found → live_at to (Next net) ≡ None → live_at to net ≡ None
   dead-before net None is dead = is
   dead-before net (Some live) is dead =
-      let next = first-walks (λ number now. HostLives to.serial) (NetLives to) (live-hosts to.serial) (live-nets to) as_session tt setup net live is in
+      let next = deliver_first-walks (λ number now. HostLives to.serial) (NetLives to) (live-hosts to.serial) (live-nets to) as_session tt setup net live is in
       absurd (not-both (live_at to (Next net)) next.0 dead next.1)
 
   later-comes : (net : Net Session) (entry : Entry) (front back more : List Entry) → net.wire ≡ entry ∷ front ++ It ∷ back → (Next net).wire ≡ (front ++ It ∷ back) ++ more → End net ≡ End (Next net)
@@ -263,5 +265,5 @@ module _ (setup : Setup) (epoch : ℕ) (app : AppId) (branch now : ℕ) (sent : 
       let same : End net ≡ End next = one-delivery as_session setup net (busy-is net entry (front ++ It ∷ back) is) in
       let goes = first-goes sent as_session setup entry (front ++ It ∷ back) net is all.0 in
       let wire : next.wire ≡ front ++ It ∷ (back ++ goes.more) = goes.wire ∙ append_assoc front (It ∷ back) goes.more in
-      later-comes net entry front back goes.more is goes.wire same (first-walks RisesAt Rises rise-hosts rise-nets as_session tt setup net).count
+      later-comes net entry front back goes.more is goes.wire same (deliver_first-walks RisesAt Rises rise-hosts rise-nets as_session tt setup net).count
       (comes-or-back front next (back ++ goes.more) wire all.1 (next-ready net entry (front ++ It ∷ back) is all.0 ready) (subst (λ (n : Net Session). n.count < 2 ^ 64) same less))

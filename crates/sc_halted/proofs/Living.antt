@@ -141,7 +141,6 @@ module _ (app : AppId) where
     same = λ net found is. (found, is);
     after = λ x y z p q found is. let one = p found is in q one.0 one.1;
     posts = λ net wire sent found is. (found, is);
-    ticks = λ net now found is. (found, is);
     places = λ number count host changed net is lives.
         changed-lives number (λ _. changed) net
         (λ h at same found there. lives found (subst (λ (x : Host Session). live_in app.serial x ≡ Some found) (some-host h host (sym at ∙ is)) there));

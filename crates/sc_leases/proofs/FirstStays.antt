@@ -13,7 +13,7 @@ use Rattle.sc_hosts.specs.Runs.{after_step}
 use Rattle.sc_hosts.specs.Sessions.{Form}
 use Rattle.sc_hosts.specs.Steps.{live_at, before_delivery as stepped}
 use Rattle.sc_leases.proofs.StayingHosts.{stay-hosts}
-use Rattle.sc_leases.proofs.StayingNets.{stay-nets}
+use Rattle.sc_leases.proofs.StayingNets.{stay-nets, tick-stays}
 use Rattle.sc_leases.proofs.OtherStays.{turns-stay, withdrawn-stays}
 use Rattle.sc_leases.specs.Leases.{is_own}
 use Rattle.sc_leases.specs.Staying.{StillFirst, HostStays, NetStays}
@@ -29,7 +29,7 @@ module _ {S : Type 0} (form : Form S) (setup : Setup) (app : AppId) where
   stepped-stays (steps.In from message) net other = arrived-walks H (NetStays app) (stay-hosts app.serial) (stay-nets app) form tt setup from message net
   stepped-stays (steps.Bad from bad) net other = bad_by-walks H (NetStays app) (stay-hosts app.serial) (stay-nets app) setup.config from bad.heads net
   stepped-stays (steps.Lost place) net other = lost-walks H (NetStays app) (stay-hosts app.serial) (stay-nets app) setup.config place net
-  stepped-stays (steps.Tick now) net other = ticked-walks H (NetStays app) (stay-hosts app.serial) (stay-nets app) form setup.config now net
+  stepped-stays (steps.Tick now) net other = ticked-walks H (NetStays app) (stay-hosts app.serial) (stay-nets app) (tick-stays app) form setup.config now net
   stepped-stays (steps.Turn end name event now made) net other = turns-stay app name other form setup (live_at name net) now made end net
   stepped-stays (steps.Withdraw name) net other = withdrawn-stays app name other form setup (live_at name net) net
 

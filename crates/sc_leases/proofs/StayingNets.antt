@@ -58,11 +58,14 @@ module _ {S : Type 0} (app : AppId) where
   places-at number count host changed net is stays false at =
       same-at net (record (change_host number (λ _. changed) net) { count = count }) (slice_get-other net.hosts number app.host (λ _. changed) (differ number app.host at))
 
+  -- time goes on
+  pub tick-stays : (net : Net S) (now : ℕ) → NetStays app net (record net { moment = now })
+  tick-stays net now = same-at net (record net { moment = now }) refl
+
   pub stay-nets : NetLaws (λ number now. HostStays {S = S} app.serial) (NetStays app)
   stay-nets = record {
     same = same-stays;
     after = after-stays;
     posts = λ net wire sent. same-at net (record net { wire = wire; sent = sent }) refl;
-    ticks = λ net now. same-at net (record net { moment = now }) refl;
     places = λ number count host changed net is stays. places-at number count host changed net is stays (number == app.host) refl;
   }

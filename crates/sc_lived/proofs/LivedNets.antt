@@ -46,11 +46,14 @@ module _ {setup : Setup} {app : AppId} {Says : List Told → History → List Wa
   places-at number count host changed net is keeps false at fine =
       rw (slice_get-other net.hosts number app.host (λ _. changed) (differ number app.host at)) fine
 
+  -- time goes on
+  pub tick-keeps : (net : Net History) (now : ℕ) → NetKeeps net (record net { moment = now })
+  tick-keeps net now = same-hosts net (record net { moment = now }) refl
+
   pub fine-nets : NetLaws (Keeps law given) NetKeeps
   fine-nets = record {
     same = λ net fine. fine;
     after = λ x y z p q fine. q (p fine);
     posts = λ net wire sent. same-hosts net (record net { wire = wire; sent = sent }) refl;
-    ticks = λ net now. same-hosts net (record net { moment = now }) refl;
     places = λ number count host changed net is keeps. places-at number count host changed net is keeps (number == app.host) refl;
   }

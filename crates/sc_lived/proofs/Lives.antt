@@ -21,14 +21,14 @@ use Rattle.sc_hosts.specs.Runs.{quiet_host, start, after_step, chained_from, net
 use Rattle.sc_hosts.specs.Steps.{live_at, live_of, before_delivery as stepped, turn_of}
 use Rattle.sc_hosts.specs.Transacting.{is_same_app}
 use Rattle.sc_lives.specs.Numbers.{IsRising, IsNumbered, AreNumbered}
-use Rattle.sc_once.proofs.History.{after_step-numbered}
+use Rattle.sc_lives.proofs.NumberedNets.{after_step-numbered}
 use Rattle.sc_once.proofs.OwnTurns.{live-known}
 use Rattle.sc_once.specs.Growing.{KnownIn}
 use Rattle.sc_once.proofs.StepParts.{same-app}
 use Rattle.sc_walks.proofs.WalkSteps.{arrived-walks, bad_by-walks, lost-walks, ticked-walks}
 use Rattle.sc_lived.specs.Lived.{Told, told_by, turns_in as told}
 use Rattle.sc_lived.proofs.LivedHosts.{Keeps, Saying, fine-hosts}
-use Rattle.sc_lived.proofs.LivedNets.{FineAt, FineIn, NetKeeps, fine-nets}
+use Rattle.sc_lived.proofs.LivedNets.{FineAt, FineIn, NetKeeps, fine-nets, tick-keeps}
 use Rattle.sc_lived.proofs.OtherTurns.{turns-keep, withdrawn-keeps}
 use Rattle.sc_lived.proofs.OwnTurns.{delivers, turn-fine, withdrawal-fine}
 
@@ -92,7 +92,7 @@ module _ {setup : Setup} {app : AppId} {Says : List Told → History → List Wa
   step-fine given net (steps.Lost place) numbered allowed fine =
       passes given net (steps.Lost place) (lost-walks (Keeps law given) (NetKeeps law given) (fine-hosts law given) (fine-nets law given) setup.config place (record net { sent = [] })) fine
   step-fine given net (steps.Tick now) numbered allowed fine =
-      passes given net (steps.Tick now) (ticked-walks (Keeps law given) (NetKeeps law given) (fine-hosts law given) (fine-nets law given) (as_history setup.config) setup.config now (record net { sent = [] })) fine
+      passes given net (steps.Tick now) (ticked-walks (Keeps law given) (NetKeeps law given) (fine-hosts law given) (fine-nets law given) (tick-keeps law given) (as_history setup.config) setup.config now (record net { sent = [] })) fine
   step-fine given net (steps.Turn end other event now made) numbered allowed fine =
       turn-by given net other event now made end numbered allowed (is_same_app app other) refl fine
   step-fine given net (steps.Withdraw other) numbered allowed fine =

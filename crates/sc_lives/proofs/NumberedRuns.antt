@@ -11,8 +11,7 @@ use Rattle.sc_hosts.specs.Nets.{host_at}
 use Rattle.sc_hosts.specs.Runs.{quiet_host, start, after_step, chained_from, net_from as chained}
 use Rattle.sc_hosts.specs.Sessions.{Form}
 use Rattle.sc_hosts.specs.Steps.{live_at}
-use Rattle.sc_lives.proofs.NumberedNets.{delivered-numbered, host_at-numbered}
-use Rattle.sc_lives.proofs.NumberedSteps.{stepped-numbered}
+use Rattle.sc_lives.proofs.NumberedNets.{after_step-numbered, host_at-numbered}
 use Rattle.sc_lives.proofs.Serials.{found-rising}
 use Rattle.sc_lives.specs.Numbers.{IsRising, IsNumbered, AreNumbered, IsNumberedAt}
 
@@ -24,11 +23,6 @@ quiet_hosts-numbered (app ∷ apps) = All-cons IsNumbered _ _ (omega arith) (qui
 start-numbered : {S : Type 0} (setup : Setup) (epoch began : ℕ) → AreNumbered (start {S = S} setup epoch began)
 unfolding start
 start-numbered setup epoch began = quiet_hosts-numbered setup.config.app
-
--- a step, with all that it makes hosts deliver
-after_step-numbered : {S : Type 0} (form : Form S) (setup : Setup) (net : Net S) (step : Step) → AreNumbered net → AreNumbered (after_step form setup net step)
-unfolding after_step
-after_step-numbered form setup net step numbered = delivered-numbered form setup _ (stepped-numbered form setup step (record net { sent = [] }) numbered)
 
 -- all steps of a journal
 chained_from-numbered : {S : Type 0} (form : Form S) (setup : Setup) (journal : List Step) (net : Net S) → AreNumbered net → AreNumbered (chained_from form setup net journal)

@@ -1,11 +1,8 @@
 pub mod NetMoments
-pub mod StepMoments
 pub mod RunMoments
 pub mod ScriptTicks
 pub mod FollowTicks
 pub mod UptoTicks
 pub mod PastHosts
-pub mod PastTaking
 pub mod PastNets
-pub mod PastSteps
 pub mod PastRuns

@@ -11,8 +11,7 @@ use Rattle.sc_hosts.specs.Runs.{start, after_step, chained_from, net_from as cha
 use Rattle.sc_hosts.specs.Sessions.{Form}
 use Rattle.sc_hosts.specs.Steps.{live_at}
 use Rattle.sc_moments.proofs.PastHosts.{hosts-later, quiet-past}
-use Rattle.sc_moments.proofs.PastNets.{Early, live_at-early, delivered-early}
-use Rattle.sc_moments.proofs.PastSteps.{stepped-early}
+use Rattle.sc_moments.proofs.PastNets.{Early, live_at-early, delivered-early, stepped-early}
 use Rattle.sc_moments.proofs.RunMoments.{after_step-moment}
 use Rattle.sc_moments.specs.Moments.{moment_of}
 

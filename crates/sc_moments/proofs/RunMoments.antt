@@ -6,8 +6,7 @@ use Rattle.sc_parts.specs.declared.setup.Setup.{Setup}
 use Rattle.sc_state.specs.declared.net.Net.{Net}
 use Rattle.sc_hosts.specs.Runs.{after_step, chained_from}
 use Rattle.sc_hosts.specs.Sessions.{Form}
-use Rattle.sc_moments.proofs.NetMoments.{delivered-moment}
-use Rattle.sc_moments.proofs.StepMoments.{stepped-moment}
+use Rattle.sc_moments.proofs.NetMoments.{delivered-moment, stepped-moment}
 use Rattle.sc_moments.specs.Moments.{moment_of}
 
 -- a step, with all that it makes hosts deliver

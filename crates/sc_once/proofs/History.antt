@@ -20,8 +20,7 @@ use Rattle.sc_hosts.specs.Sessions.{Form}
 use Rattle.sc_hosts.specs.Steps.{live_of, live_at}
 use Rattle.sc_hosts.specs.Transacting.{is_same_app}
 use Rattle.sc_lives.specs.Numbers.{IsRising, IsNumbered, AreNumbered}
-use Rattle.sc_lives.proofs.NumberedNets.{delivered-numbered}
-use Rattle.sc_lives.proofs.NumberedSteps.{stepped-numbered}
+use Rattle.sc_lives.proofs.NumberedNets.{after_step-numbered}
 use Rattle.sc_once.proofs.Bounds.{to-higher, between-append, none-between, from-lower}
 use Rattle.sc_once.proofs.Lists.{top, front-between, back-between, top-under, merge-handled, merge-purged, merge-waiting}
 use Rattle.sc_once.proofs.StepParts.{handled_in, parts, not-both, same-app}
@@ -67,10 +66,6 @@ left-within took rest new left count later false is inside more =
 left-within took rest new left count later true is inside more = rw is (from-lower [] 0 later later (omega arith) (none-between later))
 
 module _ {S : Type 0} (form : Form S) (setup : Setup) where
-  pub after_step-numbered : (net : Net S) (step : Step) → AreNumbered net → AreNumbered (after_step form setup net step)
-  unfolding after_step
-  after_step-numbered net step numbered = delivered-numbered form setup _ (stepped-numbered form setup step (record net { sent = [] }) numbered)
-
   handled-next : (app : AppId) (step : Step) (later : List Step) → handled app (step ∷ later) ≡ handled_in (handled_by app step) ++ handled app later
   unfolding handled handled_in
   handled-next app step later = by (handled_by app step) (filter_map (handled_by app) later)
@@ -93,7 +88,7 @@ module _ {S : Type 0} (form : Form S) (setup : Setup) where
       let result = before-step part.ends low net.count after.count (chained_from form setup after later).count (waiting_in app net) part.rest (handled_in (handled_by app step)) (queued_by form setup app net step)
       (purged_by form setup app net step) (waiting_in app after) (queued_from form setup app after later) (handled app later) (purged_from form setup app after later) (waiting_in app (chained_from form setup after later))
       part.before part.left part.dropped within part.between
-      (λ start inside. from-net later app after start (after_step-numbered net step numbered) lawful.1 inside) in
+      (λ start inside. from-net later app after start (after_step-numbered form setup net step numbered) lawful.1 inside) in
       rw (handled-next app step later) result
 
   -- ## From the beginning
@@ -159,7 +154,7 @@ module _ {S : Type 0} (form : Form S) (setup : Setup) where
       let after : Net S = after_step form setup net step in
       let part = parts form setup app low net step numbered within lawful.0 in
       let dead : live_at app after ≡ None = gone-dead app after (part.gone gone) in
-      let rest = gone-later later app after after.count (after_step-numbered net step numbered) lawful.1 (rw (gone-quiet app after dead) (none-between after.count)) (part.gone gone) in
+      let rest = gone-later later app after after.count (after_step-numbered form setup net step numbered) lawful.1 (rw (gone-quiet app after dead) (none-between after.count)) (part.gone gone) in
       (rw (handled-next app step later, none-handled app net step (gone-dead app net gone) lawful.0) rest.0, rest.1)
 
   -- what a net has after some lawful steps
@@ -171,7 +166,7 @@ module _ {S : Type 0} (form : Form S) (setup : Setup) where
   sound-step app net step sound allowed =
       let after : Net S = after_step form setup net step in
       let part = parts form setup app 0 net step sound.numbered sound.within allowed in record {
-        numbered = after_step-numbered net step sound.numbered;
+        numbered = after_step-numbered form setup net step sound.numbered;
         within = left-within (handled_in (handled_by app step)) part.rest (queued_by form setup app net step) (waiting_in app after) net.count after.count part.ends part.left (subst (λ (ns : List ℕ). IsBetween ns 0 net.count) part.before sound.within) part.between;
       }
 
@@ -183,7 +178,7 @@ module _ {S : Type 0} (form : Form S) (setup : Setup) where
       let after : Net S = after_step form setup net step in
       let part = parts form setup app 0 net step sound.numbered sound.within lawful.0 in
       let gone : GoneIn app.serial (host_at app.host after) = dead-gone app after (part.known (live-known app net live sound.numbered lives)) dead in
-      gone-later later app after after.count (after_step-numbered net step sound.numbered) lawful.1 (rw (gone-quiet app after dead) (none-between after.count)) gone
+      gone-later later app after after.count (after_step-numbered form setup net step sound.numbered) lawful.1 (rw (gone-quiet app after dead) (none-between after.count)) gone
   ended-from (first ∷ before) app net step later live sound lawful lives dead =
       ended-from before app (after_step form setup net first) step later live (sound-step app net first sound lawful.0) lawful.1 lives dead
 

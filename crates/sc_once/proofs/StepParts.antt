@@ -30,7 +30,7 @@ use Rattle.sc_lives.proofs.NumberedNets.{change_host-numbered, obeyed-numbered}
 use Rattle.sc_lives.proofs.Serials.{change-rising}
 use Rattle.sc_once.proofs.Bounds.{bounds-rise, to-higher, between-append, none-between}
 use Rattle.sc_once.proofs.GrowingHosts.{grow-hosts}
-use Rattle.sc_once.proofs.GrowingNets.{grow-nets}
+use Rattle.sc_once.proofs.GrowingNets.{grow-nets, tick-grows}
 use Rattle.sc_once.proofs.Lists.{above-later, queued-grown, dropped-none, dropped-held}
 use Rattle.sc_once.proofs.OtherTurns.{turns-grow, withdrawn-grows}
 use Rattle.sc_once.proofs.OwnTurns.{turned-waits, changed-known, without-gone, gone-dead, gone-quiet, live-known}
@@ -317,6 +317,6 @@ module _ {S : Type 0} (form : Form S) (setup : Setup) (app : AppId) where
       (stepping (steps.Lost place) net (lost-walks H (NetGrows app) (grow-hosts app.serial) (grow-nets app) setup.config place (record net { sent = [] })))
   parts low net (steps.Tick now) numbered within allowed =
       grown low net _ (steps.Tick now) refl refl within
-      (stepping (steps.Tick now) net (ticked-walks H (NetGrows app) (grow-hosts app.serial) (grow-nets app) form setup.config now (record net { sent = [] })))
+      (stepping (steps.Tick now) net (ticked-walks H (NetGrows app) (grow-hosts app.serial) (grow-nets app) (tick-grows app) form setup.config now (record net { sent = [] })))
   parts low net (steps.Turn end other event now made) numbered within allowed = turn-by other (is_same_app app other) refl low net event now made end numbered within allowed
   parts low net (steps.Withdraw other) numbered within allowed = withdraw-by other (is_same_app app other) refl low net numbered within allowed

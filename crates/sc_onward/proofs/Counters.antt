@@ -28,12 +28,12 @@ use Rattle.sc_hosts.specs.Runs.{IsLawful, IsLawfulFrom, after_step, net_from as 
 use Rattle.sc_hosts.specs.Sessions.{Turn}
 use Rattle.sc_hosts.specs.Steps.{live_at, live_of, outcome_by, turn_of, turned_live, without_application as invalidated, closed_turn, net_after_turn as turned, turns_first, turns, before_delivery as stepped}
 use Rattle.sc_lives.specs.Numbers.{AreNumbered}
-use Rattle.sc_lives.proofs.NumberedNets.{change_host-numbered, obeyed-numbered}
+use Rattle.sc_lives.proofs.NumberedNets.{after_step-numbered, change_host-numbered, obeyed-numbered}
 use Rattle.sc_lives.proofs.Serials.{change-rising}
 use Rattle.sc_once.proofs.Finding.{find-changed}
 use Rattle.sc_once.proofs.GrowingHosts.{grow-hosts}
 use Rattle.sc_once.proofs.GrowingNets.{grow-nets}
-use Rattle.sc_once.proofs.History.{after_step-numbered, ended-quiet}
+use Rattle.sc_once.proofs.History.{ended-quiet}
 use Rattle.sc_once.proofs.OwnTurns.{changed-known, live-known, without-gone}
 use Rattle.sc_once.specs.Growing.{GoneIn, HostGrows, KnownIn, NetGrows}
 use Rattle.sc_walks.proofs.WalkNets.{obeyed-walks}

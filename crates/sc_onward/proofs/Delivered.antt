@@ -2,7 +2,7 @@
 use Rattle.std.proofs.Common.{◌≡◌, ◌≤◌, ◌<◌, ℕ, suc, ◌+◌, ◌++◌, ◌^◌, Bool, true, false, Option, None, Some, List, [], ◌∷◌, refl, sym, ap, subst, ◌∙◌, append_assoc, arith}
 use Rattle.std.proofs.lemmas.Bool.Decides.{nat_tests}
 use Rattle.std.specs.Char.{to_ascii_lowercase}
-use Rattle.std.specs.Prelude.{◌==◌, ◌&&◌, cond, drop, is_some, length, map, nat_le, not, slice_get}
+use Rattle.std.specs.Prelude.{◌==◌, ◌&&◌, cond, is_some, length, map, nat_le, not, slice_get}
 use Rattle.std.specs.List.{find}
 use Rattle.std.specs.Option.{option_map_or}
 use Rattle.sc_tokens.specs.Names.{same_bytes, same_name}
@@ -30,7 +30,7 @@ use Rattle.sc_model.specs.Names.{IsOf64}
 use Rattle.sc_model.specs.SessionStates.{ack}
 use Rattle.sc_hosts.specs.Histories.{as_session}
 use Rattle.sc_hosts.specs.Inboxes.{is_full}
-use Rattle.sc_hosts.specs.Nets.{deliver_at, deliver_entry, deliver_first, host_at, is_busy}
+use Rattle.sc_hosts.specs.Nets.{deliver_first, host_at, is_busy}
 use Rattle.sc_hosts.specs.Runs.{after_delivery as delivered}
 use Rattle.sc_hosts.specs.Sessions.{Form}
 use Rattle.sc_hosts.specs.Steps.{live_at}
@@ -38,17 +38,16 @@ use Rattle.sc_hosts.specs.Taking.{names, own_uri, without_own_route as unrouted,
 use Rattle.sc_hosts.specs.Transacting.{branch_of, is_acked_by, is_completed, is_invite_server, is_kin, is_over, is_repeated_by, method_of, port_of, same_top, same_via, state_of_server, takes_from, top_via}
 use Rattle.sc_hosts.proofs.Deliveries.{one-delivery, same_bytes-equal}
 use Rattle.sc_lasting.specs.Lasting.{All}
-use Rattle.sc_lives.specs.Numbers.{AreNumbered, IsNumberedAt}
-use Rattle.sc_lives.proofs.HostCounts.{placed-hosts}
-use Rattle.sc_lives.proofs.NumberedHosts.{takes-numbered}
-use Rattle.sc_lives.proofs.NumberedNets.{host_at-numbered, placed-numbered}
+use Rattle.sc_lives.specs.Numbers.{AreNumbered}
+use Rattle.sc_lives.proofs.HostCounts.{AsMany, as_many-nets}
+use Rattle.sc_lives.proofs.NumberedHosts.{StaysNumbered, numbered-hosts}
+use Rattle.sc_lives.proofs.NumberedNets.{StayNumbered, numbered-nets}
 use Rattle.sc_once.specs.Growing.{KnownIn, HostGrows as CountGrows, NetGrows as NetCounts}
 use Rattle.sc_once.proofs.GrowingHosts.{grow-hosts as count-hosts}
 use Rattle.sc_once.proofs.GrowingNets.{grow-nets as count-nets}
 use Rattle.sc_once.proofs.OwnTurns.{dead-gone, gone-dead}
-use Rattle.sc_walks.specs.Walks.{HostLaws, NetLaws}
-use Rattle.sc_walks.proofs.WalkHosts.{takes-walks}
-use Rattle.sc_walks.proofs.WalkNets.{delivered-walks, placed-walks}
+use Rattle.sc_walks.proofs.AnyChange.{AnyChange, any-hosts}
+use Rattle.sc_walks.proofs.WalkNets.{deliver_first-walks, delivered-walks}
 use Rattle.sc_waits.specs.Growing.{HostGrows, NetGrows, events_in}
 use Rattle.sc_waits.proofs.GrowingHosts.{grow-hosts}
 use Rattle.sc_waits.proofs.GrowingNets.{grow-nets}
@@ -57,61 +56,19 @@ use Rattle.sc_reached.proofs.Delivering.{delivers}
 use Rattle.sc_reached.proofs.Reaching.{at-host}
 use Rattle.sc_hops.specs.Hops.{IsOnWay}
 use Rattle.sc_ways.proofs.Counts.{AreWithin, H as RisesAt, Rises, hosts as rise-hosts, nets as rise-nets, small-net}
-use Rattle.sc_ways.proofs.Epochs.{H as EpochAt, P as SameEpoch, hosts as epoch-hosts, nets as epoch-nets}
+use Rattle.sc_ways.proofs.Epochs.{SameEpoch, epoch-nets}
 use Rattle.sc_ways.proofs.Got.{small-sessions}
 use Rattle.sc_ways.proofs.Waits.{IsHeld, events-live}
 use Rattle.sc_recorded.specs.Recorded.{IsInner}
 use Rattle.sc_onward.proofs.Clean.{CleanNet, Free, IsApartFrom, first-goes}
 
--- ## One delivery, for any laws
+-- ## One delivery
 
-module _ {S : Type 0} {Begins : Form S → Type 0} (H : ℕ → ℕ → ℕ → Host S → ℕ → Host S → Type 0) (P : Net S → Net S → Type 0)
-    (hosts : (number now : ℕ) → HostLaws Begins number now (H number now)) (law : NetLaws H P) where
-  at-walks : (form : Form S) (good : Begins form) (setup : Setup) (entry : Entry) (found : Option (Host S)) (net : Net S) → host_at entry.receiver net ≡ found → P net (deliver_at form setup entry found net)
-  unfolding deliver_at
-  at-walks form good setup entry None net is = law.same net
-  at-walks form good setup entry (Some host) net is =
-      placed-walks H P hosts law entry.receiver _ host net is
-      (takes-walks entry.receiver net.moment (H entry.receiver net.moment) (hosts entry.receiver net.moment) form good setup.config net.epoch (peers.Inside entry.sender) entry.note entry.message net.count host)
+pub first-numbered : {S : Type 0} (form : Form S) (setup : Setup) (net : Net S) → AreNumbered net → AreNumbered (deliver_first form setup net)
+first-numbered form setup net = deliver_first-walks StaysNumbered StayNumbered numbered-hosts numbered-nets form tt setup net
 
-  entry-walks : (form : Form S) (good : Begins form) (setup : Setup) (entry : Option Entry) (net : Net S) → P net (deliver_entry form setup entry net)
-  unfolding deliver_entry
-  entry-walks form good setup None net = law.same net
-  entry-walks form good setup (Some entry) net = law.after _ _ _ (law.posts net _ net.sent) (at-walks form good setup entry _ _ refl)
-
-  pub first-walks : (form : Form S) (good : Begins form) (setup : Setup) (net : Net S) → P net (deliver_first form setup net)
-  unfolding deliver_first
-  first-walks form good setup net = entry-walks form good setup _ net
-
-module _ {S : Type 0} (form : Form S) (setup : Setup) where
-  at-numbered : (entry : Entry) (host : Option (Host S)) (net : Net S) → IsNumberedAt host → AreNumbered net → AreNumbered (deliver_at form setup entry host net)
-  unfolding deliver_at
-  at-numbered entry None net whole numbered = numbered
-  at-numbered entry (Some host) net whole numbered =
-      placed-numbered entry.receiver _ net (takes-numbered form setup.config net.epoch entry.receiver (peers.Inside entry.sender) net.moment entry.note entry.message net.count host whole) numbered
-
-  entry-numbered : (entry : Option Entry) (net : Net S) → AreNumbered net → AreNumbered (deliver_entry form setup entry net)
-  unfolding deliver_entry
-  entry-numbered None net numbered = numbered
-  entry-numbered (Some entry) net numbered = at-numbered entry _ _ (host_at-numbered entry.receiver net numbered) numbered
-
-  pub first-numbered : (net : Net S) → AreNumbered net → AreNumbered (deliver_first form setup net)
-  unfolding deliver_first
-  first-numbered net numbered = entry-numbered _ net numbered
-
-  at-hosts : (entry : Entry) (host : Option (Host S)) (net : Net S) → length (deliver_at form setup entry host net).hosts ≡ length net.hosts
-  unfolding deliver_at
-  at-hosts entry None net = refl
-  at-hosts entry (Some host) net = placed-hosts entry.receiver _ net
-
-  entry-hosts : (entry : Option Entry) (net : Net S) → length (deliver_entry form setup entry net).hosts ≡ length net.hosts
-  unfolding deliver_entry
-  entry-hosts None net = refl
-  entry-hosts (Some entry) net = at-hosts entry _ (record net { wire = drop 1 net.wire })
-
-  pub first-hosts : (net : Net S) → length (deliver_first form setup net).hosts ≡ length net.hosts
-  unfolding deliver_first
-  first-hosts net = entry-hosts _ net
+pub first-hosts : {S : Type 0} (form : Form S) (setup : Setup) (net : Net S) → length (deliver_first form setup net).hosts ≡ length net.hosts
+first-hosts form setup net = deliver_first-walks AnyChange AsMany any-hosts as_many-nets form tt setup net
 
 -- ## No transaction takes it
 
@@ -265,13 +222,13 @@ module _ (setup : Setup) (epoch sender : ℕ) (sent : Request) (to : AppId) (uri
   End net = delivered as_session setup net
 
   counts-first : (net : Net Session) → NetCounts to net (Next net)
-  counts-first net = first-walks (λ number now. CountGrows {S = Session} to.serial) (NetCounts to) (count-hosts to.serial) (count-nets to) as_session tt setup net
+  counts-first net = deliver_first-walks (λ number now. CountGrows {S = Session} to.serial) (NetCounts to) (count-hosts to.serial) (count-nets to) as_session tt setup net
 
   pub stands-next : (net : Net Session) (entry : Entry) (rest : List Entry) → net.wire ≡ entry ∷ rest → IsOnWay (IsApartFrom sent) entry.message → Stands net → Stands (Next net)
   stands-next net entry rest is way stands = record {
     numbered = first-numbered as_session setup net stands.numbered;
-    within = (first-walks RisesAt Rises rise-hosts rise-nets as_session tt setup net).within stands.within;
-    at = first-walks (EpochAt as_session setup) (SameEpoch as_session setup) (epoch-hosts as_session setup) (epoch-nets as_session setup) as_session tt setup net ∙ stands.at;
+    within = (deliver_first-walks RisesAt Rises rise-hosts rise-nets as_session tt setup net).within stands.within;
+    at = deliver_first-walks AnyChange SameEpoch any-hosts epoch-nets as_session tt setup net ∙ stands.at;
     few = subst (λ (n : ℕ). n ≤ 2 ^ 64) (sym (first-hosts as_session setup net)) stands.few;
     known = (counts-first net).known stands.known;
     clean = (first-goes sent as_session setup entry rest net is way).clean stands.clean;
@@ -348,6 +305,6 @@ module _ (setup : Setup) (epoch sender : ℕ) (sent : Request) (to : AppId) (uri
       subst (λ (n : Net Session). Arrives setup sent to net.count n) (sym same) (record {
         waiting = later.waiting;
         is = later.is;
-        above = over net.count next.count later.waiting.number (first-walks RisesAt Rises rise-hosts rise-nets as_session tt setup net).count later.above;
+        above = over net.count next.count later.waiting.number (deliver_first-walks RisesAt Rises rise-hosts rise-nets as_session tt setup net).count later.above;
         held = later.held;
       })

@@ -34,24 +34,27 @@ use Rattle.sc_hosts.specs.Destinations.{next_uri}
 use Rattle.sc_hosts.specs.Finishing.{goodbye}
 use Rattle.sc_hosts.specs.Histories.{as_session}
 use Rattle.sc_hosts.specs.Inboxes.{is_full, is_live, live_in}
-use Rattle.sc_hosts.specs.Nets.{acknowledge, change_host, host_at, named_host, obey, after_orders as obeyed, peer_of_host, with_message as put, queue_for, send_later, send_named, send_to, with_routes}
+use Rattle.sc_hosts.specs.Nets.{acknowledge, change_host, host_at, named_host, obey, after_orders as obeyed, peer_of_host, with_message as put, send_later, send_named, send_to, with_routes}
 use Rattle.sc_hosts.specs.Runs.{after_step, after_delivery as delivered}
 use Rattle.sc_hosts.specs.Sessions.{Turn}
-use Rattle.sc_hosts.specs.Steps.{closed_turn, inbox_of, without_application as invalidated, live_at, outcome_by, before_delivery as stepped, turn_of, net_after_turn as turned, turned_live, turns, turns_first, with_ready, without_live}
+use Rattle.sc_hosts.specs.Steps.{closed_turn, inbox_of, without_application as invalidated, live_at, outcome_by, before_delivery as stepped, turn_of, net_after_turn as turned, turned_live, turns, turns_first, without_live}
 use Rattle.sc_hosts.specs.Taking.{names, named_live, own_uri}
 use Rattle.sc_hosts.specs.Transacting.{method_of, without_ended}
 use Rattle.sc_lasting.specs.Lasting.{All}
 use Rattle.sc_lives.specs.Numbers.{AreNumbered}
-use Rattle.sc_lives.proofs.HostCounts.{change_host-hosts, if-hosts, obeyed-hosts, queue_for-hosts}
-use Rattle.sc_lives.proofs.NumberedNets.{change_host-numbered, if-net, obeyed-numbered, queue_for-numbered}
-use Rattle.sc_lives.proofs.Serials.{change-rising, remove-rising}
+use Rattle.sc_lives.proofs.HostCounts.{AsMany, as_many-nets, change_host-hosts, obeyed-hosts}
+use Rattle.sc_lives.proofs.NumberedHosts.{StaysNumbered, numbered-hosts, numbered-turns}
+use Rattle.sc_lives.proofs.NumberedNets.{StayNumbered, change_host-numbered, numbered-nets, obeyed-numbered}
+use Rattle.sc_lives.proofs.Serials.{change-rising}
 use Rattle.sc_once.specs.Growing.{GoneIn, KnownIn, HostGrows as CountGrows, NetGrows as NetCounts}
 use Rattle.sc_once.proofs.ChangedHosts.{changed_hosts}
 use Rattle.sc_once.proofs.GrowingHosts.{grow-hosts as count-hosts}
 use Rattle.sc_once.proofs.GrowingNets.{grow-nets as count-nets}
 use Rattle.sc_once.proofs.OwnTurns.{dead-gone, gone-dead, live-known}
+use Rattle.sc_walks.proofs.AnyChange.{AnyChange, any-hosts, any-turns}
 use Rattle.sc_walks.proofs.WalkNets.{delivered-walks, obeyed-walks}
 use Rattle.sc_walks.proofs.WalkSteps.{with_ready-walks}
+use Rattle.sc_walks.proofs.WalkTurns.{closed_turn-walks}
 use Rattle.sc_reached.specs.Reached.{AllSmall}
 use Rattle.sc_reached.proofs.NamedHosts.{named_host-is}
 use Rattle.sc_reached.proofs.Naming.{named_live-is}
@@ -61,7 +64,7 @@ use Rattle.sc_hops.proofs.Carried.{FitsIn, obeyed-holds}
 use Rattle.sc_hops.proofs.OneTurn.{none-on-way}
 use Rattle.sc_hops.proofs.OwnBranch.{kin-branch}
 use Rattle.sc_ways.proofs.Counts.{AreWithin, H as RisesAt, Rises, closed_turn-rises, hosts as rise-hosts, nets as rise-nets, same-last, small-net}
-use Rattle.sc_ways.proofs.Epochs.{H as EpochAt, P as SameEpoch, closed_turn-epoch, hosts as epoch-hosts, nets as epoch-nets}
+use Rattle.sc_ways.proofs.Epochs.{SameEpoch, closed_turn-epoch, epoch-nets}
 use Rattle.sc_ways.proofs.Got.{small-sessions}
 use Rattle.sc_onward.proofs.Clean.{CleanNet, Goes, IsApartFrom, change-goes, closed-goes, obey-goes, obeyed-goes, then-goes}
 use Rattle.sc_onward.proofs.Delivered.{Arrives, Stands, comes}
@@ -244,25 +247,10 @@ module _ (to : AppId) where
       (with_ready-walks (λ number now. CountGrows {S = Session} to.serial) (NetCounts to) (count-hosts to.serial) (count-nets to) app done (live_at app net) net).known known
 
   pub closed-numbered : (setup : Setup) (app : AppId) (done : Outcome) (ends : Bool) (net : Net Session) → AreNumbered net → AreNumbered (closed_turn setup app done ends net)
-  unfolding closed_turn invalidated without_live without_ended with_ready
-  closed-numbered setup app done true net numbered =
-      change_host-numbered app.host _ (obeyed setup app (goodbye setup.config done.session (inbox_of (live_at app net))) net) (λ host rising. remove-rising host.sessions 0 host.last (is_live app.serial) rising)
-      (obeyed-numbered setup app (goodbye setup.config done.session (inbox_of (live_at app net))) net numbered)
-  closed-numbered setup app done false net numbered = by (live_at app net)
-    where
-      by : (found : Option (Live Session)) → AreNumbered (with_ready app done found net)
-      by None = numbered
-      by (Some live) = if-net _ (queue_for app queued.Ready net) net (queue_for-numbered app queued.Ready net numbered) numbered
+  closed-numbered setup app done ends net = closed_turn-walks StaysNumbered StayNumbered numbered-hosts numbered-nets numbered-turns setup app done ends net
 
   pub closed-hosts : (setup : Setup) (app : AppId) (done : Outcome) (ends : Bool) (net : Net Session) → length (closed_turn setup app done ends net).hosts ≡ length net.hosts
-  unfolding closed_turn invalidated without_live with_ready
-  closed-hosts setup app done true net =
-      change_host-hosts app.host _ (obeyed setup app (goodbye setup.config done.session (inbox_of (live_at app net))) net) ∙ obeyed-hosts setup app (goodbye setup.config done.session (inbox_of (live_at app net))) net
-  closed-hosts setup app done false net = by (live_at app net)
-    where
-      by : (found : Option (Live Session)) → length (with_ready app done found net).hosts ≡ length net.hosts
-      by None = refl
-      by (Some live) = if-hosts _ (length net.hosts) (queue_for app queued.Ready net) net (queue_for-hosts app queued.Ready net) refl
+  closed-hosts setup app done ends net = closed_turn-walks AnyChange AsMany any-hosts as_many-nets any-turns setup app done ends net
 
 pub over : (a b c : ℕ) → a ≤ b → b < c → a < c
 over a b c p q = omega (arith, p, q)
@@ -350,7 +338,7 @@ module _ (setup : Setup) (net : Net Session) (app : AppId) (live : Live Session)
     rises-of given n = obeyed-walks RisesAt Rises rise-hosts rise-nets setup app given n
 
     epoch-of : (given : List Order) (n : Net Session) → (obeyed setup app given n).epoch ≡ n.epoch
-    epoch-of given n = obeyed-walks (EpochAt as_session setup) (SameEpoch as_session setup) (epoch-hosts as_session setup) (epoch-nets as_session setup) setup app given n
+    epoch-of given n = obeyed-walks AnyChange SameEpoch any-hosts epoch-nets setup app given n
 
     first-rises : Rises Start Changed
     first-rises = same-last app.host Change Start (λ host. refl)
@@ -462,7 +450,7 @@ module _ (setup : Setup) (net : Net Session) (app : AppId) (live : Live Session)
     n3-stands = record {
       numbered = closed-numbered to setup app Done Done.ends N2 (obeyed-numbered setup app (order ∷ rest) N0 n0-numbered);
       within = three-rises.within (two-rises.within n0-within);
-      at = closed_turn-epoch as_session setup app Done Done.ends N2 ∙ (epoch-of (order ∷ rest) N0 ∙ n0-epoch);
+      at = closed_turn-epoch setup app Done Done.ends N2 ∙ (epoch-of (order ∷ rest) N0 ∙ n0-epoch);
       few = subst (λ (n : ℕ). n ≤ 2 ^ 64) (sym (closed-hosts to setup app Done Done.ends N2 ∙ (obeyed-hosts setup app (order ∷ rest) N0 ∙ n0-hosts))) on.few;
       known = closed-known to setup app Done Done.ends N2 n2-known;
       clean = n3-clean;

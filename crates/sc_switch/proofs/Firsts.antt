@@ -14,7 +14,7 @@ use Rattle.sc_model.specs.Settings.{app_of}
 use Rattle.sc_hosts.specs.Histories.{as_session}
 use Rattle.sc_hosts.specs.Runs.{net_from as chained, IsLawful}
 use Rattle.sc_hosts.specs.Steps.{live_at, live_of}
-use Rattle.sc_lives.proofs.HostCountSteps.{chained-hosts}
+use Rattle.sc_lives.proofs.HostCounts.{chained-hosts}
 use Rattle.sc_moments.proofs.PastRuns.{first-is-past}
 
 -- ## Its first event

@@ -154,6 +154,5 @@ module _ {S : Type 0} where
       same = λ net live is. stays-on live live _ is refl refl;
       after = net-then;
       posts = λ net wire sent live is. stays-on live live _ is refl refl;
-      ticks = λ net now live is. stays-on live live _ is refl refl;
       places = λ number count host changed net is keeps. places-at number count host changed net is keeps (number == app.host) refl;
     }

@@ -88,11 +88,10 @@ module _ {S : Type 0} where
     same = λ net none. none;
     after = λ x y z p q none. q (p none);
     posts = λ net wire sent none. none;
-    ticks = λ net now none. none;
     places = λ number count host changed net is keeps. places-none app number count host changed net is keeps (number == app.host) refl;
   }
 
   pub ticked-none : (form : Form S) (config : Config) (now : ℕ) (net : Net S) (app : AppId) → live_at app net ≡ None
       → live_at app (ticked form config now net) ≡ None
   ticked-none form config now net app =
-      ticked-walks (λ number now. HostNone app.serial) (NetNone app) (none-hosts app.serial) (none-nets app) form config now net
+      ticked-walks (λ number now. HostNone app.serial) (NetNone app) (none-hosts app.serial) (none-nets app) (λ net now none. none) form config now net

@@ -83,11 +83,14 @@ module _ {S : Type 0} (app : AppId) where
         gone = λ g. rw later g;
       }
 
+  -- time goes on
+  pub tick-grows : (net : Net S) (now : ℕ) → NetGrows app net (record net { moment = now })
+  tick-grows net now = same-hosts net (record net { moment = now }) refl refl
+
   pub grow-nets : NetLaws (λ number now. HostGrows {S = S} app.serial) (NetGrows app)
   grow-nets = record {
     same = same-grows;
     after = after-grows;
     posts = λ net wire sent. same-hosts net (record net { wire = wire; sent = sent }) refl refl;
-    ticks = λ net now. same-hosts net (record net { moment = now }) refl refl;
     places = λ number count host changed net is grows. places-at number count host changed net is grows (number == app.host) refl;
   }

@@ -23,7 +23,7 @@ use Rattle.sc_walks.proofs.WalkNets.{obeyed-walks, delivered-walks}
 use Rattle.sc_walks.proofs.WalkSteps.{arrived-walks, bad_by-walks, lost-walks, ticked-walks, with_ready-walks}
 use Rattle.sc_once.proofs.Finding.{find-changed}
 use Rattle.sc_waits.proofs.GrowingHosts.{grow-hosts}
-use Rattle.sc_waits.proofs.GrowingNets.{grow-nets, waiting-at}
+use Rattle.sc_waits.proofs.GrowingNets.{grow-nets, tick-grows, waiting-at}
 use Rattle.sc_waits.proofs.OtherTurns.{turns-grow, withdrawn-grows}
 use Rattle.sc_waits.specs.Growing.{events_in, events_of, HostGrows, NetGrows, IsElsewhere, Grows, Follows}
 
@@ -42,7 +42,7 @@ module _ {S : Type 0} (form : Form S) (setup : Setup) (app : AppId) where
   steps-before net (steps.In from message) away = arrived-walks H (NetGrows app) (grow-hosts app.serial) (grow-nets app) form tt setup from message net
   steps-before net (steps.Bad from bad) away = bad_by-walks H (NetGrows app) (grow-hosts app.serial) (grow-nets app) setup.config from bad.heads net
   steps-before net (steps.Lost place) away = lost-walks H (NetGrows app) (grow-hosts app.serial) (grow-nets app) setup.config place net
-  steps-before net (steps.Tick now) away = ticked-walks H (NetGrows app) (grow-hosts app.serial) (grow-nets app) form setup.config now net
+  steps-before net (steps.Tick now) away = ticked-walks H (NetGrows app) (grow-hosts app.serial) (grow-nets app) (tick-grows app) form setup.config now net
   steps-before net (steps.Turn end other event now made) away = turns-grow app other away form setup (live_at other net) now made end net
   steps-before net (steps.Withdraw other) away = withdrawn-grows app other away form setup (live_at other net) net
 

@@ -191,7 +191,7 @@ module _ {S : Type 0} {Begins : Form S → Type 0} (H : ℕ → ℕ → ℕ → 
   deliver_entry-walks form good setup None net = law.same net
   deliver_entry-walks form good setup (Some entry) net = law.after _ _ _ (law.posts net _ net.sent) (deliver_at-walks form good setup entry _ _ refl)
 
-  deliver_first-walks : (form : Form S) (good : Begins form) (setup : Setup) (net : Net S) → P net (deliver_first form setup net)
+  pub deliver_first-walks : (form : Form S) (good : Begins form) (setup : Setup) (net : Net S) → P net (deliver_first form setup net)
   unfolding deliver_first
   deliver_first-walks form good setup net = deliver_entry-walks form good setup _ net
 

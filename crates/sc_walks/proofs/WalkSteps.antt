@@ -116,11 +116,14 @@ module _ {S : Type 0} {Begins : Form S → Type 0} (H : ℕ → ℕ → ℕ → 
   all-fire config now [] late net = law.same net
   all-fire config now (d ∷ ds) late net = law.after _ _ _ (fires-walks config now net d.entry d.item late.0) (all-fire config now ds late.1 (fires config now net d.entry d.item))
 
-  pub ticked-walks : (form : Form S) (config : Config) (now : ℕ) (net : Net S) → P net (ticked form config now net)
+  -- what is due is done, at the moment of the tick
+  pub fired-walks : (form : Form S) (config : Config) (now : ℕ) (net : Net S) → P (record net { moment = now }) (ticked form config now net)
   unfolding ticked IsLate
-  ticked-walks form config now net =
-      law.after _ _ _ (law.ticks net now)
-      (all-fire config now (due_items form now net) (due-good IsLate tt (λ id. tt) (λ number due. tt) form now net) (record net { moment = now }))
+  fired-walks form config now net = all-fire config now (due_items form now net) (due-good IsLate tt (λ id. tt) (λ number due. tt) form now net) (record net { moment = now })
+
+  -- where a later moment keeps the relation too
+  pub ticked-walks : ((net : Net S) (now : ℕ) → P net (record net { moment = now })) → (form : Form S) (config : Config) (now : ℕ) (net : Net S) → P net (ticked form config now net)
+  ticked-walks ticks form config now net = law.after _ _ _ (ticks net now) (fired-walks form config now net)
 
   -- ## After a turn
 

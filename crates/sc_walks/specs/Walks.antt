@@ -1,6 +1,7 @@
 -- Relations of what was and what is, which every change that a step makes of a host, and of a net,
 -- keeps.
 use Rattle.std.specs.Prelude.{◌≡◌, ℕ, ◌+◌, List, [], ◌∷◌, ◌++◌, Some}
+use Rattle.sc_value.specs.Lists.{change_first, remove_first}
 use Rattle.sc_value.specs.declared.message.Request.{Request}
 use Rattle.sc_value.specs.declared.message.Sent.{Sent}
 use Rattle.sc_terms.specs.declared.settings.Config.{Config}
@@ -10,12 +11,14 @@ use Rattle.sc_state.specs.declared.host.Server.{Server}
 use Rattle.sc_state.specs.declared.net.Entry.{Entry}
 use Rattle.sc_state.specs.declared.net.Net.{Net}
 use Rattle.sc_state.specs.declared.net.Note.{Note}
+use Rattle.sc_state.specs.declared.orders.Outcome.{Outcome}
 use Rattle.sc_state.specs.declared.queue.Queued.{Queued}
 use Rattle.sc_state.specs.declared.queue.Queued.TheVariants as queued
 use Rattle.sc_model.specs.Timers.{DueEntry}
-use Rattle.sc_hosts.specs.Inboxes.{queue}
+use Rattle.sc_hosts.specs.Inboxes.{is_live, queue}
 use Rattle.sc_hosts.specs.Nets.{change_host, host_at}
-use Rattle.sc_hosts.specs.Sessions.{Form}
+use Rattle.sc_hosts.specs.Sessions.{Form, Turn}
+use Rattle.sc_hosts.specs.Steps.{turned_live}
 use Rattle.sc_hosts.specs.Taking.{begun_live}
 use Rattle.sc_hosts.specs.Ticks.{mark_fired}
 
@@ -47,6 +50,19 @@ pub record HostLaws {S : Type 0} (Begins : Form S → Type 0) (number now : ℕ)
   pub marks : (entry : DueEntry) (count : ℕ) (host : Host S)
       → H count host count (mark_fired entry host)
 
+-- at such a host, where a session takes a turn, and where one goes
+pub record TurnLaws {S : Type 0} (now : ℕ) (H : ℕ → Host S → ℕ → Host S → Type 0) : Type 0 where
+  pub turns : (form : Form S) (config : Config) (serial : ℕ) (turn : Turn) (done : Outcome)
+      (count : ℕ) (host : Host S)
+      → H count host count (record host {
+        sessions =
+            change_first (is_live serial) (turned_live form config now turn done) host.sessions;
+      })
+  pub goes : (serial count : ℕ) (host : Host S)
+      → H count host count (record host {
+        sessions = remove_first (is_live serial) host.sessions;
+      })
+
 -- of nets, where a host of it changes so
 pub record NetLaws {S : Type 0} (H : ℕ → ℕ → ℕ → Host S → ℕ → Host S → Type 0)
     (P : Net S → Net S → Type 0) : Type 0 where
@@ -54,7 +70,6 @@ pub record NetLaws {S : Type 0} (H : ℕ → ℕ → ℕ → Host S → ℕ → 
   pub after : (x y z : Net S) → P x y → P y z → P x z
   pub posts : (net : Net S) (wire : List Entry) (sent : List Sent)
       → P net (record net { wire = wire; sent = sent })
-  pub ticks : (net : Net S) (now : ℕ) → P net (record net { moment = now })
   pub places : (number count : ℕ) (host changed : Host S) (net : Net S)
       → host_at number net ≡ Some host → H number net.moment net.count host count changed
       → P net (record (change_host number (λ _. changed) net) { count = count })

@@ -5,10 +5,7 @@ use Rattle.std.proofs.lemmas.Bool.Decides.{nat_tests}
 use Rattle.sc_value.specs.Lists.{change_nth}
 use Rattle.sc_value.proofs.ListFacts.{slice_get-change_nth}
 use Rattle.sc_value.specs.declared.ids.AppId.{AppId}
-use Rattle.sc_terms.specs.declared.calls.CallRecord.{CallRecord}
-use Rattle.sc_terms.specs.declared.calls.End.{End}
 use Rattle.sc_terms.specs.declared.steps.Step.{Step}
-use Rattle.sc_terms.specs.declared.steps.Step.TheVariants as steps
 use Rattle.sc_parts.specs.declared.setup.Setup.{Setup}
 use Rattle.sc_state.specs.Hosts.{Host}
 use Rattle.sc_state.specs.declared.host.Live.{Live}
@@ -16,22 +13,19 @@ use Rattle.sc_state.specs.declared.host.Taken.{Taken}
 use Rattle.sc_state.specs.declared.net.Net.{Net}
 use Rattle.sc_state.specs.declared.orders.Outcome.{Outcome}
 use Rattle.sc_state.specs.declared.queue.Queued.{Queued}
-use Rattle.sc_state.specs.declared.queue.Waiting.{Waiting}
-use Rattle.sc_state.specs.declared.session.Session.{Session}
 use Rattle.sc_model.specs.Timers.{DueEntry}
 use Rattle.sc_hosts.specs.Inboxes.{live_in, queue, without_answer as quiet}
 use Rattle.sc_hosts.specs.Nets.{change_host, host_at}
 use Rattle.sc_hosts.specs.Runs.{after_step, chained_from}
-use Rattle.sc_hosts.specs.Sessions.{Form, Turn}
-use Rattle.sc_hosts.specs.Steps.{closed_turn, without_application as invalidated, before_delivery as stepped, net_after_turn as turned, turns, turns_first, withdrawn, without_live}
+use Rattle.sc_hosts.specs.Sessions.{Form}
+use Rattle.sc_hosts.specs.Steps.{closed_turn}
 use Rattle.sc_hosts.specs.Ticks.{mark_fired}
-use Rattle.sc_hosts.specs.Transacting.{without_ended}
 use Rattle.sc_lives.specs.Numbers.{AreNumbered, IsNumberedAt, IsRising}
 use Rattle.sc_lives.proofs.NumberedNets.{host_at-numbered}
 use Rattle.sc_once.proofs.Finding.{slice_get-other}
-use Rattle.sc_walks.specs.Walks.{HostLaws, NetLaws}
-use Rattle.sc_walks.proofs.WalkNets.{change_host-walks, delivered-walks, obeyed-walks}
-use Rattle.sc_walks.proofs.WalkSteps.{arrived-walks, bad_by-walks, lost-walks, ticked-walks, with_ready-walks}
+use Rattle.sc_walks.specs.Walks.{HostLaws, NetLaws, TurnLaws}
+use Rattle.sc_walks.proofs.WalkNets.{change_host-walks}
+use Rattle.sc_walks.proofs.WalkTurns.{after_step-walks, closed_turn-walks}
 use Rattle.sc_reached.specs.Reached.{AllSmall, AreSmall}
 
 equal : (a b : ℕ) → (a == b) ≡ true → a ≡ b
@@ -131,7 +125,6 @@ module _ {S : Type 0} where
     same = λ net. still net net refl refl;
     after = λ x y z p q. joined x y z p q;
     posts = λ net wire sent. still net (record net { wire = wire; sent = sent }) refl refl;
-    ticks = λ net now. still net (record net { moment = now }) refl refl;
     places = λ number count host changed net at keeps. record { count = keeps.0; within = λ within n h is. placed-by number count host changed net at keeps within n h (n == number) refl is };
   }
 
@@ -140,54 +133,18 @@ module _ {S : Type 0} where
 
   -- ## Of a step
 
+  turn-laws : (number now : ℕ) → TurnLaws now (H number now)
+  turn-laws number now = record {
+    turns = λ form config serial turn done count host. (least count, λ under. under);
+    goes = λ serial count host. (least count, λ under. under);
+  }
+
   module _ (form : Form S) (setup : Setup) where
-    without-rises : (app : AppId) (net : Net S) → Rises net (without_live app net)
-    unfolding without_live without_ended
-    without-rises app net = same-last app.host _ net (λ host. refl)
-
-    invalidated-rises : (app : AppId) (session : Session) (inbox : List Waiting) (net : Net S) → Rises net (invalidated setup app session inbox net)
-    unfolding invalidated
-    invalidated-rises app session inbox net = joined net _ _ (obeyed-walks H Rises hosts nets setup app _ net) (without-rises app _)
-
     pub closed_turn-rises : (app : AppId) (done : Outcome) (ends : Bool) (net : Net S) → Rises net (closed_turn setup app done ends net)
-    unfolding closed_turn
-    closed_turn-rises app done true net = invalidated-rises app done.session _ net
-    closed_turn-rises app done false net = with_ready-walks H Rises hosts nets app done _ net
-
-    turned-rises : (app : AppId) (turn : Turn) (done : Outcome) (net : Net S) → Rises net (turned form setup app turn done net)
-    unfolding turned
-    turned-rises app turn done net =
-        joined net _ _ (same-last app.host _ net (λ host. refl)) (joined _ _ _ (obeyed-walks H Rises hosts nets setup app done.orders _) (closed_turn-rises app done done.ends _))
-
-    turns_first-rises : (app : AppId) (live : Live S) (waiting : Option Waiting) (now : ℕ) (made : List CallRecord) (end : End) (net : Net S) → Rises net (turns_first form setup app live waiting now made end net)
-    unfolding turns_first
-    turns_first-rises app live None now made end net = nets.same net
-    turns_first-rises app live (Some waiting) now made end net = turned-rises app _ _ net
-
-    turns-rises : (app : AppId) (live : Option (Live S)) (now : ℕ) (made : List CallRecord) (end : End) (net : Net S) → Rises net (turns form setup app live now made end net)
-    unfolding turns
-    turns-rises app None now made end net = nets.same net
-    turns-rises app (Some live) now made end net = turns_first-rises app live _ now made end net
-
-    withdrawn-rises : (app : AppId) (live : Option (Live S)) (net : Net S) → Rises net (withdrawn form setup app live net)
-    unfolding withdrawn
-    withdrawn-rises app None net = nets.same net
-    withdrawn-rises app (Some live) net = invalidated-rises app _ live.inbox net
-
-    stepped-rises : (step : Step) (net : Net S) → Rises net (stepped form setup step net)
-    unfolding stepped
-    stepped-rises (steps.In from message) net = arrived-walks H Rises hosts nets form tt setup from message net
-    stepped-rises (steps.Bad from bad) net = bad_by-walks H Rises hosts nets setup.config from bad.heads net
-    stepped-rises (steps.Lost place) net = lost-walks H Rises hosts nets setup.config place net
-    stepped-rises (steps.Tick now) net = ticked-walks H Rises hosts nets form setup.config now net
-    stepped-rises (steps.Turn end app event now made) net = turns-rises app _ now made end net
-    stepped-rises (steps.Withdraw app) net = withdrawn-rises app _ net
+    closed_turn-rises app done ends net = closed_turn-walks H Rises hosts nets turn-laws setup app done ends net
 
     pub step-rises : (net : Net S) (step : Step) → Rises net (after_step form setup net step)
-    unfolding after_step
-    step-rises net step =
-        let start : Net S = record net { sent = [] } in
-        joined net start _ (still net start refl refl) (joined start (stepped form setup step start) _ (stepped-rises step start) (delivered-walks H Rises hosts nets form tt setup (stepped form setup step start)))
+    step-rises net step = after_step-walks H Rises hosts nets turn-laws (λ net now. still net (record net { moment = now }) refl refl) form tt setup net step
 
     pub run-rises : (later : List Step) (net : Net S) → net.count ≤ (chained_from form setup net later).count
     unfolding chained_from

@@ -22,11 +22,12 @@ use Rattle.sc_hosts.specs.Histories.{as_session}
 use Rattle.sc_hosts.specs.Nets.{host_at, is_busy}
 use Rattle.sc_hosts.specs.Runs.{IsLawful, IsLawfulFrom, after_step, net_from as chained, chained_from, quiet_host, start}
 use Rattle.sc_hosts.specs.Steps.{live_at, outcome_by, ringing_at, turn_of}
-use Rattle.sc_lives.proofs.HostCountSteps.{chained-hosts}
+use Rattle.sc_lives.proofs.HostCounts.{chained-hosts}
 use Rattle.sc_lives.specs.Numbers.{AreNumbered, IsNumbered, IsRising}
 use Rattle.sc_once.specs.Growing.{IsBetween}
 use Rattle.sc_once.proofs.Bounds.{from-lower}
-use Rattle.sc_once.proofs.History.{after_step-numbered, one-history}
+use Rattle.sc_lives.proofs.NumberedNets.{after_step-numbered}
+use Rattle.sc_once.proofs.History.{one-history}
 use Rattle.sc_once.proofs.Lists.{back-between, top}
 use Rattle.sc_lasting.specs.Lasting.{All, Numbered}
 use Rattle.sc_lasting.proofs.Lives.{live-is}

@@ -1,4 +1,4 @@
-use Rattle.sc_lives.proofs.HostCountSteps.{chained-hosts}
+use Rattle.sc_lives.proofs.HostCounts.{chained-hosts}
 use Rattle.sc_lives.proofs.laws.hosts_are_applications.Goals as goal
 
 pub returns-clause-session : goal.returns-clause-session
