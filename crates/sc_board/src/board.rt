@@ -13,6 +13,8 @@ pub struct Board {
     pub(crate) results: ResultQueue,
     /// Rings where a job was posted.
     pub(crate) posted: Bell,
+    /// Rings where a result was brought.
+    pub(crate) brought: Bell,
     /// Rings where a worker begins.
     pub(crate) begun: Bell,
     pub ghost alike: { ruled_capacity results ≡ ruled_capacity jobs },

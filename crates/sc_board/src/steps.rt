@@ -43,6 +43,7 @@ impl Board {
             jobs,
             results,
             posted: Bell::new(),
+            brought: Bell::new(),
             begun: Bell::new(),
         };
         let pass = BoardPass {
@@ -91,7 +92,7 @@ impl Board {
         jobs::take(rt, &self.jobs, &mut pass.jobs)
     }
 
-    /// Brings the result of a lease that the pass has in hand.
+    /// Brings the result of a lease that the pass has in hand, and wakes who sleeps until then.
     ///
     /// # Errors
     ///
@@ -116,6 +117,7 @@ impl Board {
         match results::bring(rt, &self.results, &mut pass.results, done) {
             Ok(()) => {
                 jobs::let_go(&self.jobs, &mut pass.jobs, number);
+                self.brought.wake_one();
                 Ok(())
             }
             Err(back) => Err(back),
@@ -236,5 +238,16 @@ impl Board {
             }
             self.begun.sleep(rt, 0, BEGIN_NAP);
         }
+    }
+
+    /// How many results were brought.
+    pub fn results_brought(&self) -> u64 {
+        self.brought.rings()
+    }
+
+    /// Sleeps until a result is brought, so many milliseconds at most, and not at all where one was
+    /// brought since so many. It may wake for no reason.
+    pub fn await_result<R: Wait>(&self, rt: &R, brought: u64, millis: u64) {
+        self.brought.sleep(rt, brought, millis);
     }
 }

@@ -19,6 +19,8 @@ pub struct Seat<'a> {
     kinds: usize,
     /// The number of the lease that was posted last, 0 where none was.
     newest: u64,
+    /// How many results had been brought before the last look that found none.
+    brought: u64,
     pub ghost seated: { IsSeated board.now pass kinds newest },
 }
 
@@ -35,6 +37,7 @@ impl<'a> Seat<'a> {
             pass,
             kinds,
             newest: 0,
+            brought: 0,
         }
     }
 
@@ -70,7 +73,18 @@ impl<'a> Seat<'a> {
 
     /// Collects the oldest result, if there is one.
     pub fn collect<R: Wait>(&mut self, rt: &R) -> Option<Done> {
-        self.board.collect_as(rt, &mut self.pass)
+        let brought = self.board.results_brought();
+        let done = self.board.collect_as(rt, &mut self.pass);
+        if done.is_none() {
+            self.brought = brought;
+        }
+        done
+    }
+
+    /// Waits until a result is brought that wasn't there when it last looked, so many milliseconds
+    /// at most.
+    pub fn await_result<R: Wait>(&self, rt: &R, millis: u64) {
+        self.board.await_result(rt, self.brought, millis);
     }
 
     /// Ends the work: drops the jobs and the results that are left, and posts a stop for each
@@ -129,6 +143,14 @@ pub fn collect_at<R: Wait>(rt: &R, seat: &mut Option<Seat<'_>>) -> Option<Done> 
     match seat {
         Some(seat) => seat.collect(rt),
         None => None,
+    }
+}
+
+/// Waits until a result is brought where there is a seat, so many milliseconds at most.
+pub fn rest_at<R: Wait>(rt: &R, seat: &Option<Seat<'_>>, millis: u64) {
+    match seat {
+        Some(seat) => seat.await_result(rt, millis),
+        None => {}
     }
 }
 

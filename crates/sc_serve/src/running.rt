@@ -12,7 +12,7 @@ use crate::stop::Stop;
 use sc_board::{Board, BoardPass, beside_crew};
 use sc_edge::{Clock, Edge, Gate, Notice, Orders};
 use sc_journal::Journal;
-use sc_lending::{Seat, await_at, dismiss_at};
+use sc_lending::{Seat, await_at, dismiss_at, rest_at};
 use sc_rounds::end_epoch;
 use sc_servlets::Catalogue;
 use sc_terms::{Step, Within};
@@ -27,7 +27,7 @@ const ROOM: usize = 64;
 /// orders again. What comes to the edge ends the wait.
 const REST: u64 = 20;
 
-/// How many milliseconds it waits at most where a turn is lent out.
+/// How many milliseconds it waits at most for a turn that is lent out, until it asks its edge again.
 const SHORT_REST: u64 = 1;
 
 /// Runs a server beside so many workers, which make turns.
@@ -226,7 +226,7 @@ pub fn run<R: Wait, E: Edge, T: Clock, O: Orders, N: Notice<Journal<Step>>>(
                     end_epoch(&mut server.core, notice);
                     return Ok(());
                 }
-                edge.rest(rest_of(server));
+                rest(rt, server, seat, edge);
             }
             Err(stop) => return Err(stop),
         }
@@ -234,11 +234,14 @@ pub fn run<R: Wait, E: Edge, T: Clock, O: Orders, N: Notice<Journal<Step>>>(
     unreachable!()
 }
 
-/// How long a server waits that has nothing to do.
-fn rest_of(server: &Server) -> u64 {
+/// A server that has nothing to do waits until something comes to the edge, or, where a turn is lent
+/// out, until it is brought.
+fn rest<R: Wait, E: Edge>(rt: &R, server: &Server, seat: &Option<Seat<'_>>, edge: &mut E)
+    ensures { E.state edge.new ≡ E.state edge.old }
+{
     if server.core.switch.leases() > 0 {
-        SHORT_REST
+        rest_at(rt, seat, SHORT_REST);
     } else {
-        REST
+        edge.rest(REST);
     }
 }
