@@ -117,11 +117,6 @@ up_to seat v first items views h at =
     subst (λ (xs : List Posted). AllByRecursion (IsWhole (xs ++ items)) v.ended) (sym mine.taken_is)
     (subst (AllByRecursion (IsWhole (h.taken ++ items))) (sym mine.ended_is) (all_more (IsEnded h.made (h.taken ++ items)) (IsWhole (h.taken ++ items)) h.ended (λ e is. is.whole) h.ended_are))
 
--- where nothing waits all was taken
-pub whole_at : (taken items : List Posted) (ended : List Ended) → length items ≡ 0 → AllByRecursion (IsWhole (taken ++ items)) ended → AllByRecursion (IsWhole taken) ended
-whole_at taken [] ended none all = subst (λ (xs : List Posted). AllByRecursion (IsWhole xs) ended) (append-nil taken) all
-whole_at taken (p ∷ items) ended none all = absurd (omega (arith, none))
-
 -- ## A split
 
 pub splits : (seat : ℕ) (v : DeskView) → v.first ≡ true → Forks DeskKept seat v (one_made v) (poster_view v.made)

@@ -1,5 +1,5 @@
 -- What holds of each view, and of pairs of views, as one changes and as one is added.
-use Rattle.std.proofs.Common.{◌≡◌, ◌≢◌, ◌⊎◌, ℕ, zero, suc, ◌<◌, List, [], ◌∷◌, ◌++◌, length, set, sym, refl, ap, ◌∙◌, subst, ⊎_elim, inl, inr, arith}
+use Rattle.std.proofs.Common.{◌≡◌, ◌≢◌, ◌⊎◌, ℕ, zero, suc, List, [], ◌∷◌, ◌++◌, length, set, sym, refl, ap, ◌∙◌, subst, ⊎_elim, inl, inr}
 use Rattle.std.specs.List.{AllByRecursion}
 use mathlib.Core.Option.{some, some-ne-none, some-injective}
 use lib.ListN.{get_elem?}
@@ -23,11 +23,6 @@ module _ {A : Type 0} where
 -- a view that stands in the list with one changed is that one, or stood there before
 pub there : {B : Type 0} (views : List DeskView) (seat j : ℕ) (w u : DeskView) → (j ≡ seat → w ≡ u → B) → (j ≢ seat → get_elem? views j ≡ some u → B) → get_elem? (set views seat w) j ≡ some u → B
 there views seat j w u mine others at = ⊎_elim (λ (x : (j ≡ seat) × (w ≡ u)). mine x.0 x.1) (λ (x : (j ≢ seat) × (get_elem? views j ≡ some u)). others x.0 x.1) (at_set views seat j w u at)
-
-pub within : (views : List DeskView) (j : ℕ) (u : DeskView) → get_elem? views j ≡ some u → j < length views
-within [] j u at = absurd (some-ne-none u (sym at))
-within (x ∷ xs) zero u at = omega arith
-within (x ∷ xs) (suc j) u at = let later = within xs j u at in omega (arith, later)
 
 -- a view that stands in the list with one more is at its end, or stood there before
 pub at_end : (views : List DeskView) (w u : DeskView) (j : ℕ) → get_elem? (views ++ w ∷ []) j ≡ some u → (get_elem? views j ≡ some u) ⊎ ((j ≡ length views) × (w ≡ u))

@@ -1,12 +1,11 @@
 -- The words of a command line, by their number.
-use Rattle.std.proofs.Common.{◌≡◌, ◌<◌, ◌≤◌, ℕ, Option, None, Some, true, false, Bool, cond, codes, List, [], ◌∷◌, map, length, sym, ap, subst, refl, ◌∙◌, arith}
+use Rattle.std.proofs.Common.{◌≡◌, ◌<◌, ◌≤◌, ℕ, Option, None, Some, true, false, Bool, cond, List, [], ◌∷◌, map, length, sym, ap, subst, refl, ◌∙◌, arith}
 use Rattle.std.specs.Prelude.{get_or}
 use Rattle.std.proofs.lemmas.Bool.{false≢true}
 use Rattle.sc_tokens.specs.Names.{same_bytes}
 use Rattle.sc_tokens.specs.Bytes.{Bytes}
 use Rattle.sc_replay.specs.declared.commanding.Command.TheVariants.{Usage}
-use Rattle.sc_replay.specs.Commands.{command_of, count_behind, count_after_name as counted, counted_command, settled_command, scripted_command}
-use Rattle.sc_replay.specs.Checking.{checked_names}
+use Rattle.sc_replay.specs.Commands.{command_of, count_behind, count_after_name as counted, counted_command, settled_command, scripted_command, settled_names}
 
 pub two_words : {S : Type 0} (f : S → Bytes) (words : List S) (a b : S) → 2 ≤ length words → length words < 3 → a ≡ get_or words 0 a → b ≡ get_or words 1 b
     → counted_command (f a) (f b) ≡ command_of (map f words)
@@ -71,7 +70,7 @@ counted_many f name (x ∷ []) least = absurd (omega (arith, least))
 counted_many f name (x ∷ y ∷ []) least = absurd (omega (arith, least))
 counted_many f name (x ∷ y ∷ z ∷ more) least = refl
 
--- ## `check`
+-- ## `check CONFIG DAR` and `serve CONFIG DAR`
 
 if_names : (t : Bool) (names : Bytes × Bytes) → t ≡ true → Some names ≡ cond t (Some names) None
 if_names true names e = refl
@@ -81,35 +80,35 @@ if_none : (t : Bool) (names : Bytes × Bytes) → t ≡ false → None ≡ cond 
 if_none true names e = absurd (false≢true (sym e))
 if_none false names e = refl
 
-pub checked_three : {S : Type 0} (f : S → Bytes) (words : List S) (a b c : S) → 3 ≤ length words → length words < 4 → a ≡ get_or words 0 a → b ≡ get_or words 1 b → c ≡ get_or words 2 c
-    → same_bytes (f a) (codes "check") ≡ true → Some (f b, f c) ≡ checked_names (map f words)
-unfolding checked_names
-checked_three f [] a b c least below first second third is = absurd (omega (arith, least))
-checked_three f (x ∷ []) a b c least below first second third is = absurd (omega (arith, least))
-checked_three f (x ∷ y ∷ []) a b c least below first second third is = absurd (omega (arith, least))
-checked_three f (x ∷ y ∷ z ∷ []) a b c least below first second third is =
-    ap (λ w. Some (f w, f c)) second ∙ ap (λ w. Some (f y, f w)) third ∙ if_names (same_bytes (f x) (codes "check")) (f y, f z) (subst (λ w. same_bytes (f w) (codes "check") ≡ true) first is)
-checked_three f (x ∷ y ∷ z ∷ v ∷ more) a b c least below first second third is = absurd (omega (arith, below))
+pub settled_three : {S : Type 0} (f : S → Bytes) (name : Bytes) (words : List S) (a b c : S) → 3 ≤ length words → length words < 4 → a ≡ get_or words 0 a → b ≡ get_or words 1 b → c ≡ get_or words 2 c
+    → same_bytes (f a) name ≡ true → Some (f b, f c) ≡ settled_names name (map f words)
+unfolding settled_names
+settled_three f name [] a b c least below first second third is = absurd (omega (arith, least))
+settled_three f name (x ∷ []) a b c least below first second third is = absurd (omega (arith, least))
+settled_three f name (x ∷ y ∷ []) a b c least below first second third is = absurd (omega (arith, least))
+settled_three f name (x ∷ y ∷ z ∷ []) a b c least below first second third is =
+    ap (λ w. Some (f w, f c)) second ∙ ap (λ w. Some (f y, f w)) third ∙ if_names (same_bytes (f x) name) (f y, f z) (subst (λ w. same_bytes (f w) name ≡ true) first is)
+settled_three f name (x ∷ y ∷ z ∷ v ∷ more) a b c least below first second third is = absurd (omega (arith, below))
 
-pub checked_other : {S : Type 0} (f : S → Bytes) (words : List S) (a : S) → 3 ≤ length words → length words < 4 → a ≡ get_or words 0 a → same_bytes (f a) (codes "check") ≡ false → None ≡ checked_names (map f words)
-unfolding checked_names
-checked_other f [] a least below first is = absurd (omega (arith, least))
-checked_other f (x ∷ []) a least below first is = absurd (omega (arith, least))
-checked_other f (x ∷ y ∷ []) a least below first is = absurd (omega (arith, least))
-checked_other f (x ∷ y ∷ z ∷ []) a least below first is = if_none (same_bytes (f x) (codes "check")) (f y, f z) (subst (λ w. same_bytes (f w) (codes "check") ≡ false) first is)
-checked_other f (x ∷ y ∷ z ∷ v ∷ more) a least below first is = absurd (omega (arith, below))
+pub settled_other : {S : Type 0} (f : S → Bytes) (name : Bytes) (words : List S) (a : S) → 3 ≤ length words → length words < 4 → a ≡ get_or words 0 a → same_bytes (f a) name ≡ false → None ≡ settled_names name (map f words)
+unfolding settled_names
+settled_other f name [] a least below first is = absurd (omega (arith, least))
+settled_other f name (x ∷ []) a least below first is = absurd (omega (arith, least))
+settled_other f name (x ∷ y ∷ []) a least below first is = absurd (omega (arith, least))
+settled_other f name (x ∷ y ∷ z ∷ []) a least below first is = if_none (same_bytes (f x) name) (f y, f z) (subst (λ w. same_bytes (f w) name ≡ false) first is)
+settled_other f name (x ∷ y ∷ z ∷ v ∷ more) a least below first is = absurd (omega (arith, below))
 
-pub checked_few : {S : Type 0} (f : S → Bytes) (words : List S) → length words < 3 → None ≡ checked_names (map f words)
-unfolding checked_names
-checked_few f [] below = refl
-checked_few f (x ∷ []) below = refl
-checked_few f (x ∷ y ∷ []) below = refl
-checked_few f (x ∷ y ∷ z ∷ more) below = absurd (omega (arith, below))
+pub settled_few : {S : Type 0} (f : S → Bytes) (name : Bytes) (words : List S) → length words < 3 → None ≡ settled_names name (map f words)
+unfolding settled_names
+settled_few f name [] below = refl
+settled_few f name (x ∷ []) below = refl
+settled_few f name (x ∷ y ∷ []) below = refl
+settled_few f name (x ∷ y ∷ z ∷ more) below = absurd (omega (arith, below))
 
-pub checked_many : {S : Type 0} (f : S → Bytes) (words : List S) → 4 ≤ length words → None ≡ checked_names (map f words)
-unfolding checked_names
-checked_many f [] least = absurd (omega (arith, least))
-checked_many f (x ∷ []) least = absurd (omega (arith, least))
-checked_many f (x ∷ y ∷ []) least = absurd (omega (arith, least))
-checked_many f (x ∷ y ∷ z ∷ []) least = absurd (omega (arith, least))
-checked_many f (x ∷ y ∷ z ∷ v ∷ more) least = refl
+pub settled_many : {S : Type 0} (f : S → Bytes) (name : Bytes) (words : List S) → 4 ≤ length words → None ≡ settled_names name (map f words)
+unfolding settled_names
+settled_many f name [] least = absurd (omega (arith, least))
+settled_many f name (x ∷ []) least = absurd (omega (arith, least))
+settled_many f name (x ∷ y ∷ []) least = absurd (omega (arith, least))
+settled_many f name (x ∷ y ∷ z ∷ []) least = absurd (omega (arith, least))
+settled_many f name (x ∷ y ∷ z ∷ v ∷ more) least = refl

@@ -11,7 +11,7 @@ use Rattle.sc_replay.specs.Checking.{checked_names}
 use Rattle.sc_replay.specs.Making.{made_count}
 use Rattle.sc_replay.specs.Replaying.{IsReplay, replay_word}
 use Rattle.sc_replay.specs.Trying.{tried_count}
-use Rattle.sc_replay.specs.Commands.{HasForm, IsCounted, IsNamed, command_of, count_in, count_after_name as counted, counted_command, settled_command, scripted_command}
+use Rattle.sc_replay.specs.Commands.{HasForm, IsCounted, IsNamed, command_of, count_in, count_after_name as counted, counted_command, settled_command, scripted_command, settled_names}
 
 -- ## The command that is found has its form
 
@@ -94,7 +94,7 @@ check_if word config dar true is some = (config, dar, ap (λ (w : Bytes). w ∷ 
 check_if word config dar false is some = absurd (false≢true some)
 
 check_form : (words : List Bytes) → is_some (checked_names words) ≡ true → HasForm Check words
-unfolding checked_names
+unfolding settled_names
 check_form [] some = absurd (false≢true some)
 check_form (word ∷ []) some = absurd (false≢true some)
 check_form (word ∷ config ∷ []) some = absurd (false≢true some)
@@ -105,7 +105,7 @@ pub check_taken : (words : List Bytes) → is_some (checked_names words) ≡ tru
 check_taken words some = form_only words Check (check_form words some)
 
 pub check_named : (words : List Bytes) → command_of words ≡ Check → is_some (checked_names words) ≡ true
-unfolding HasForm checked_names
+unfolding HasForm settled_names
 check_named words named = given (form_of_command words Check (λ e. false≢true (ap is_usage e)) named)
   where
     given : HasForm Check words → is_some (checked_names words) ≡ true

@@ -1,6 +1,5 @@
 -- What `check` promises.
-use Rattle.std.specs.Prelude.{◌≡◌, ℕ, Option, Some, None, List, [], ◌∷◌, ◌++◌, length, sum_by, codes, decimal, if◌then◌else◌}
-use Rattle.sc_tokens.specs.Names.{same_bytes}
+use Rattle.std.specs.Prelude.{◌≡◌, ℕ, Option, Some, None, List, [], ◌∷◌, ◌++◌, length, sum_by, codes, decimal}
 use Rattle.sc_terms.specs.declared.settings.Config.{Config}
 use Rattle.sc_terms.specs.declared.settings.Dar.{Dar}
 use Rattle.sc_terms.specs.declared.settings.MethodList.{MethodList}
@@ -12,12 +11,11 @@ use Rattle.sc_switch.specs.declared.ran.Status.{Status}
 use Rattle.sc_switch.specs.declared.ran.Status.TheVariants as statuses
 use Rattle.sc_replay.specs.Replaying.{TellsConfig, TellsTable, IsUnset, app_names}
 use Rattle.sc_replay.specs.Putting.{IsPut}
+use Rattle.sc_replay.specs.Commands.{settled_names}
 
 -- CONFIG and DAR of `check CONFIG DAR`, none of other words
-unfoldable pub checked_names : List Bytes → Option (Bytes × Bytes)
-checked_names (word ∷ config ∷ dar ∷ []) =
-    if same_bytes word (codes "check") then Some (config, dar) else None
-checked_names words = None
+abbrev pub checked_names : List Bytes → Option (Bytes × Bytes)
+checked_names words = settled_names (codes "check") words
 
 -- the tuples of all methods
 abbrev pub tuple_count : List MethodList → ℕ

@@ -24,6 +24,12 @@ unfoldable pub count_after_name : Bytes → List Bytes → Option ℕ
 count_after_name name (word ∷ count ∷ []) = count_behind name word count
 count_after_name name words = None
 
+-- CONFIG and DAR of `NAME CONFIG DAR`, none of other words
+unfoldable pub settled_names : Bytes → List Bytes → Option (Bytes × Bytes)
+settled_names name (word ∷ config ∷ dar ∷ []) =
+    if same_bytes word name then Some (config, dar) else None
+settled_names name words = None
+
 -- the word, and the number of a command
 abbrev pub IsCounted : Bytes → List Bytes → Type 0
 IsCounted word words =

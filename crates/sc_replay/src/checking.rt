@@ -7,7 +7,7 @@ ghost use Rattle.sc_edge.specs.Faults.{Rose};
 ghost use Rattle.sc_replay.specs.Checking.{ChecksWords, Checks, HasNoSteps, checked_names, ok_line, ok_word, tuple_count};
 ghost use Rattle.sc_replay.specs.Putting.{IsPut};
 
-use crate::commanding::is_word;
+use crate::commanding::settled_names;
 use crate::putting::{ended, put_whole};
 use crate::settings::{Settings, read_settings};
 use sc_edge::{Shelf, Sink};
@@ -26,7 +26,8 @@ use std::alloc::Global;
 ///
 /// - `Done`: both were accepted, and the line was put.
 /// - `Usage`: the words have another form.
-/// - `Config`, `Dar`: the configuration is refused; it is accepted, and the routing table is refused.
+/// - `Config`, `Dar`: the configuration is refused; it is accepted, and the routing table is
+///   refused.
 /// - `Read`, `Write`: only where the shelf's, the sink's count of faults rose in this call.
 /// - `NoMemory`: want of memory, at any place.
 ///
@@ -57,14 +58,7 @@ fn checked_names(words: &[String]) -> Option<(&String, &String)>
     ensures { option_map (λ p. (string_bytes p.0.now, string_bytes p.1.now)) result
         ≡ checked_names (map string_bytes words.now) }
 {
-    let [word, config, dar] = words else {
-        return None;
-    };
-    if is_word(word.as_bytes(), b"check") {
-        Some((config, dar))
-    } else {
-        None
-    }
+    settled_names(b"check", words)
 }
 
 /// Checks the two texts of these names.

@@ -1,13 +1,14 @@
 //! The command that the words of a command line are.
 
 ghost use Rattle.std.specs.Prelude.{◌≡◌, ◌≤◌, IfSome, List, map, string_bytes, is_some, true};
+ghost use Rattle.std.specs.Option.{option_map};
 ghost use Rattle.sc_tokens.specs.Bytes.{Bytes};
 ghost use Rattle.sc_replay.specs.Checking.{checked_names};
 ghost use Rattle.sc_replay.specs.Making.{made_count};
 ghost use Rattle.sc_replay.specs.Replaying.{IsReplay};
 ghost use Rattle.sc_replay.specs.Trying.{tried_count};
 ghost use Rattle.sc_tokens.specs.Names.{same_bytes};
-ghost use Rattle.sc_replay.specs.Commands.{HasForm, IsNamed, command_of, count_after_name, count_behind, count_in, counted_command, scripted_command, settled_command};
+ghost use Rattle.sc_replay.specs.Commands.{HasForm, IsNamed, command_of, count_after_name, count_behind, count_in, counted_command, scripted_command, settled_command, settled_names};
 ghost use Rattle.sc_replay.specs.declared.commanding.Command.{Command};
 
 use sc_script::decimal_upto;
@@ -41,8 +42,8 @@ pub fn command_of(words: &[String]) -> Command
     form_of(words)
 }
 
-/// `replay`, `check`, `make` and `trial` take exactly the words that are named so. The contract is the law,
-/// and the call does nothing.
+/// `replay`, `check`, `make` and `trial` take exactly the words that are named so. The contract is
+/// the law, and the call does nothing.
 #[tactic(auto, using(crate::proofs::FormLaws::replay_taken, crate::proofs::FormLaws::replay_named, crate::proofs::FormLaws::check_taken, crate::proofs::FormLaws::check_named, crate::proofs::FormLaws::make_taken, crate::proofs::FormLaws::make_named, crate::proofs::FormLaws::trial_taken, crate::proofs::FormLaws::trial_named))]
 pub fn commands_are_named()
     ensures replays { (words : List Bytes) → IsReplay words → command_of words ≡ Command.Replay }
@@ -139,6 +140,21 @@ pub fn counted(name: &[u8], words: &[String]) -> Option<u32>
     count_behind(name, word.as_bytes(), count.as_bytes())
 }
 
+/// CONFIG and DAR of the words `NAME CONFIG DAR`, None exactly where the words aren't these.
+pub fn settled_names<'a>(name: &[u8], words: &'a [String]) -> Option<(&'a String, &'a String)>
+    ensures { option_map (λ p. (string_bytes p.0.now, string_bytes p.1.now)) result
+        ≡ settled_names name.now (map string_bytes words.now) }
+{
+    let [word, config, dar] = words else {
+        return None;
+    };
+    if is_word(word.as_bytes(), name) {
+        Some((config, dar))
+    } else {
+        None
+    }
+}
+
 fn count_behind(name: &[u8], word: &[u8], count: &[u8]) -> Option<u32>
     ensures exact { result ≡ count_behind name.now word.now count.now }
     ensures least { IfSome result (λ n. 1 ≤ n) }
@@ -152,7 +168,7 @@ fn count_behind(name: &[u8], word: &[u8], count: &[u8]) -> Option<u32>
 }
 
 /// Whether a word has these bytes.
-pub fn is_word(word: &[u8], expected: &[u8]) -> bool
+fn is_word(word: &[u8], expected: &[u8]) -> bool
     ensures { result ≡ same_bytes word.now expected.now }
 {
     word == expected

@@ -14,7 +14,7 @@ mod trying;
 mod writing;
 
 pub use checking::check;
-pub use commanding::{Command, command_of, commands_are_named};
+pub use commanding::{Command, command_of, commands_are_named, settled_names};
 pub use making::make;
 pub use replaying::replay;
 pub use sc_switch::{Ran, Status};

@@ -3,7 +3,6 @@ mod Closings
 mod EachClosing
 mod Endings
 mod Leavings
-mod Names
 mod OnceGivings
 mod Pollings
 mod Roundings

@@ -1,8 +1,7 @@
 -- What `serve` promises: when each status comes, and what was heard, taken, put and told until
 -- then.
-use Rattle.std.specs.Prelude.{◌≡◌, List, [], ◌∷◌, ◌++◌, Option, None, Some, true, codes, if◌then◌else◌, length}
+use Rattle.std.specs.Prelude.{◌≡◌, List, [], ◌∷◌, ◌++◌, Option, None, Some, true, codes, length}
 use Rattle.std.specs.Option.{is_some}
-use Rattle.sc_tokens.specs.Names.{same_bytes}
 use Rattle.sc_terms.specs.declared.steps.Step.{Step}
 use Rattle.sc_parts.specs.declared.setup.Setup.{Setup}
 use Rattle.sc_tokens.specs.Bytes.{Bytes}
@@ -16,6 +15,7 @@ use Rattle.sc_switch.specs.declared.ran.Ran.{Ran}
 use Rattle.sc_switch.specs.declared.ran.Status.{Status}
 use Rattle.sc_switch.specs.declared.ran.Status.TheVariants as statuses
 use Rattle.sc_replay.specs.Replaying.{IsUnset, TellsConfig, TellsTable, app_names}
+use Rattle.sc_replay.specs.Commands.{settled_names}
 use Rattle.sc_runs.specs.Following.{Streams}
 use Rattle.sc_outs.specs.Deeds.{Deed}
 use Rattle.sc_outs.specs.Puts.{TookParts, TookWhole}
@@ -31,10 +31,8 @@ use Rattle.sc_serve.specs.Closing.{Closes, ClosesAll, ClosesEach}
 use Rattle.sc_serve.specs.Polls.{PollsOften}
 
 -- CONFIG and DAR of `serve CONFIG DAR`, none of other words
-unfoldable pub served_names : List Bytes → Option (Bytes × Bytes)
-served_names (word ∷ config ∷ dar ∷ []) =
-    if same_bytes word (codes "serve") then Some (config, dar) else None
-served_names words = None
+abbrev pub served_names : List Bytes → Option (Bytes × Bytes)
+served_names words = settled_names (codes "serve") words
 
 -- the set-up of a run: the configuration, the table for its applications, and the catalogue's kinds
 pub record IsSetUp (names : List Bytes) (kinds : List Charters) (configs dars : Option Bytes)

@@ -2,11 +2,10 @@
 
 ghost use Rattle.std.specs.Prelude.{◌≡◌, ◌≤◌, ℕ, List, map, string_bytes};
 ghost use Rattle.std.specs.Option.{option_map};
-ghost use Rattle.sc_tokens.specs.Names.{same_bytes};
 ghost use Rattle.sc_serve.specs.Served.{served_names};
 
 use sc_edge::Shelf;
-use sc_replay::read_settings;
+use sc_replay::{read_settings, settled_names};
 use sc_servlets::Catalogue;
 use sc_terms::Config;
 use std::alloc::Global;
@@ -17,21 +16,7 @@ pub fn served_names(words: &[String]) -> Option<(&String, &String)>
     ensures { option_map (λ p. (string_bytes p.0.now, string_bytes p.1.now)) result
         ≡ served_names (map string_bytes words.now) }
 {
-    let [word, config, dar] = words else {
-        return None;
-    };
-    if is_word(word.as_bytes(), b"serve") {
-        Some((config, dar))
-    } else {
-        None
-    }
-}
-
-/// Whether a word has these bytes.
-fn is_word(word: &[u8], expected: &[u8]) -> bool
-    ensures { result ≡ same_bytes word.now expected.now }
-{
-    word == expected
+    settled_names(b"serve", words)
 }
 
 /// Where a server listens, and how it writes to addresses.

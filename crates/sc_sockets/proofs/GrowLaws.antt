@@ -127,7 +127,7 @@ grows_accepted known = record {
 
 -- ## A place that is closed
 
-quiet_after : (is_kept : Bool) (found : Option Line) → is_silent_at (line_after is_kept Halted found) ≡ true
+pub quiet_after : (is_kept : Bool) (found : Option Line) → is_silent_at (line_after is_kept Halted found) ≡ true
 quiet_after true None = refl
 quiet_after true (Some line) = refl
 quiet_after false found = refl

@@ -93,10 +93,6 @@ settled_other false change place other lines apart_from = other_gone place other
 
 -- ## One more connection
 
--- what was found is found still
-pub found_still : (place : Place) (lines more : List Line) (line : Line) → find (is_of place) lines ≡ Some line → find (is_of place) (lines ++ more) ≡ Some line
-found_still place lines more line e = find-append (is_of place) lines more ∙ ap (λ (found : Option Line). option_or found (find (is_of place) more)) e
-
 or_none : (found : Option Line) → option_or found None ≡ found
 or_none None = refl
 or_none (Some line) = refl

@@ -7,7 +7,7 @@ use Rattle.sc_value.specs.Places.{same_place}
 use Rattle.sc_value.proofs.PlaceLaws.{same_place-is}
 use Rattle.sc_edge.specs.Edges.{Stands, Stays, is_back}
 use Rattle.sc_edge.specs.EdgeCalls.{Ends, Halts, Names, PollBlames}
-use Rattle.sc_edge.specs.Faults.{Rose, one_more}
+use Rattle.sc_edge.specs.Faults.{Rose}
 use Rattle.sc_edge.specs.declared.edge.Got.{Got}
 use Rattle.sc_edge.specs.declared.edge.Got.TheVariants as got
 use Rattle.sc_sockets.specs.Calls.{Gives, Grows, Polls, with_poll_counted as polled}
@@ -15,7 +15,7 @@ use Rattle.sc_sockets.specs.Lines.{Known, edge_state, place_after_end as ended, 
 use Rattle.sc_sockets.specs.declared.line.Change.TheVariants.{Halted}
 use Rattle.sc_sockets.specs.declared.line.Line.{Line}
 use Rattle.sc_sockets.proofs.LineLaws.{line_after, settled_self}
-use Rattle.sc_sockets.proofs.GrowLaws.{Touches, and_of, both, by_test, others_stand, others_stay, stands_then, stays_then, touches_ended, touches_failed}
+use Rattle.sc_sockets.proofs.GrowLaws.{Touches, and_of, both, by_test, others_stand, others_stay, stands_then, stays_then, touches_ended, touches_failed, quiet_after}
 use Rattle.sc_sockets.proofs.PutLaws.{cut_failed, failed_fails}
 
 -- ## A place that is read isn't silent
@@ -52,11 +52,6 @@ ended_line place known = settled_self (is_kept_ended place (line_at known place)
 ended_last : (place : Place) (known : Known) → (ended place known).last ≡ known.last
 unfolding ended
 ended_last place known = refl
-
-quiet_after : (is_kept : Bool) (found : Option Line) → is_silent_at (line_after is_kept Halted found) ≡ true
-quiet_after true None = refl
-quiet_after true (Some line) = refl
-quiet_after false found = refl
 
 or_right : (a b : Bool) → b ≡ true → (a || b) ≡ true
 or_right true b e = refl
@@ -172,15 +167,3 @@ polls_all old mid new answer grows gives later rose =
       stays = λ place. stays_then (polled old) mid new place (grows.stays place) (given_stays mid new answer place gives);
       stands = λ place. stands_then (polled old) mid new place (grows.stands place) (given_stands mid new answer place gives);
     }
-
--- a poll without a listener: counted, and the fault counted
-pub polls_fault : (old new : Known) → new ≡ record (polled old) { faults = one_more old.faults } → Rose old.faults new.faults → old.faults ≤ new.faults → Polls (edge_state old) (edge_state new) got.Fault
-polls_fault old new e rose later = record {
-  polls = rw e refl;
-  later = (later, λ place. rw e (omega arith));
-  blames = rose;
-  ended = (λ f. absurd (false≢true f), refl);
-  named = tt;
-  stays = λ place. rw e (λ silent. (silent, λ barred. barred));
-  stands = λ place. rw e (refl, λ peer. refl);
-}

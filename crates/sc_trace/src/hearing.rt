@@ -146,8 +146,8 @@ fn end_long(
     Ok(false)
 }
 
-/// A place is lost, and its stream.
-fn lose(
+/// A place is lost, and what is kept of its stream is dropped.
+pub fn lose(
     alloc: Global,
     place: Place,
     streams: &mut Streams,

@@ -1,6 +1,6 @@
 //! The steps of the lines of a script.
 
-use crate::hearing::{hear_text, lose_place};
+use crate::hearing::{hear_text, lose};
 use crate::telling::{tell_sent, tell_tick, tell_withdrawn};
 use crate::turns::{take_turn_of, take_turns};
 use sc_ladder::{Stop, Story};
@@ -15,8 +15,8 @@ use std::alloc::Global;
 ///
 /// # Errors
 ///
-/// `JournalFull` where the journal has no room for the step that is due, and `NoMemory`. The steps before it
-/// stand, and are told.
+/// `JournalFull` where the journal has no room for the step that is due, and `NoMemory`. The steps
+/// before it stand, and are told.
 pub fn follow(
     alloc: Global,
     apps: &Catalogue,
@@ -44,7 +44,7 @@ fn do_line(
         Line::Turn(app) => take_turn_of(alloc, apps, *app, switch, story),
         Line::Run => take_turns(alloc, apps, switch, story),
         Line::Tick(now) => do_tick(alloc, *now, switch, story),
-        Line::Lost(place) => do_lost(alloc, *place, streams, switch, story),
+        Line::Lost(place) => lose(alloc, *place, streams, switch, story),
         Line::Drop(app) => do_drop(alloc, *app, switch, story),
         Line::End => Ok(()),
     }
@@ -63,19 +63,6 @@ fn do_tick(
     switch.tick(alloc, now)?;
     tell_tick(alloc, now, story)?;
     tell_sent(alloc, switch, Stop::Edge, story)?;
-    Ok(())
-}
-
-/// A place is lost, and what is kept of its stream is dropped.
-fn do_lost(
-    alloc: Global,
-    place: Place,
-    streams: &mut Streams,
-    switch: &mut Switch,
-    story: &mut Story,
-) -> Result<(), StepRefused> {
-    lose_place(alloc, place, switch, story)?;
-    streams.drop_of(place);
     Ok(())
 }
 
