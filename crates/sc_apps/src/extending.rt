@@ -29,6 +29,10 @@ impl Listener for ExtendsOnce {
         ListenerCharter::ExtendOnce
     }
 
+    fn is_short(&self) -> bool {
+        true
+    }
+
     #[tactic(auto, unfolding(sc_servlets::specs::Brought::ListenerPromises, sc_hosts::specs::Bringing::listener_script), using(crate::proofs::Playing::keeps))]
     fn expired(&self, t: &mut Turn) -> End {
         ended(extend(t))

@@ -79,6 +79,10 @@ impl SipServlet for BuiltIn {
         }
     }
 
+    fn is_short(&self) -> bool {
+        true
+    }
+
     #[tactic(auto, unfolding(crate::specs::BuiltIns::charter_of))]
     fn turn(&self, t: &mut Turn, e: &Event) -> End {
         match self {

@@ -46,8 +46,8 @@ pub fn work_once<R: Wait, N: Notice<Journal<Step>>>(
     }
 }
 
-/// Lends out the turns that are due, 64 at most: whether one was. Those that no worker takes are
-/// made here.
+/// Lends out the turns that are due, 64 at most: whether one was. Those that are short, and those
+/// that no worker takes, are made here.
 fn lend_turns<R: Wait, N: Notice<Journal<Step>>>(
     rt: &R,
     core: &mut Core,
@@ -70,7 +70,7 @@ fn lend_turns<R: Wait, N: Notice<Journal<Step>>>(
     Ok(some)
 }
 
-/// Lends out the turn of the first event that waits: whether one was.
+/// Lends out the turn of the first event that waits, or makes it here: whether one was.
 fn lend_turn<R: Wait, N: Notice<Journal<Step>>>(
     rt: &R,
     core: &mut Core,
@@ -87,13 +87,27 @@ fn lend_turn<R: Wait, N: Notice<Journal<Step>>>(
         return Ok(false);
     }
     match core.lease() {
-        Ok(Some(lease)) => match post_at(rt, seat, lease) {
+        Ok(Some(lease)) => match offer(rt, seat, apps, lease) {
             Ok(()) => Ok(true),
             Err(back) => make_turn(core, notice, apps, back),
         },
         Ok(None) => Ok(false),
         Err(NoMemory) => Err(StepRefused::NoMemory),
     }
+}
+
+/// Posts the turn of a lease to the workers. It comes back where it is short, and where no worker
+/// takes it.
+fn offer<R: Wait>(
+    rt: &R,
+    seat: &mut Option<Seat<'_>>,
+    apps: &Catalogue,
+    lease: Lease,
+) -> Result<(), Lease> {
+    if apps.is_short(lease.kind) {
+        return Err(lease);
+    }
+    post_at(rt, seat, lease)
 }
 
 /// Makes the turn of a lease. A kind that the catalogue hasn't makes none.

@@ -114,6 +114,15 @@ impl Catalogue {
     {
         self.kinds.items[kind].charters()
     }
+
+    /// Whether each turn of the kind at this place is short, of its servlet and of its listener;
+    /// not where no kind stands there.
+    pub fn is_short(&self, kind: usize) -> bool {
+        match self.kinds.as_slice().get(kind) {
+            Some(kind) => kind.is_short(),
+            None => false,
+        }
+    }
 }
 
 impl Kind {
@@ -124,6 +133,17 @@ impl Kind {
             (option_map (λ l. listens l) self.now.listener) }
     {
         (self.servlet.charter(), listener_charter(&self.listener))
+    }
+
+    fn is_short(&self) -> bool {
+        self.servlet.is_short() && is_short_listener(&self.listener)
+    }
+}
+
+fn is_short_listener(listener: &Option<Box<dyn Listener>>) -> bool {
+    match listener {
+        Some(listener) => listener.is_short(),
+        None => true,
     }
 }
 

@@ -18,6 +18,13 @@ pub trait SipServlet: Send + Sync + Drop {
     fn charter(&self) -> Charter
         ensures { result ≡ stated self.now };
 
+    /// Whether each of its turns takes so little time that a server makes it itself: handing it to a
+    /// worker would cost more. Turns of others are lent to workers, so that they hold up nothing
+    /// else.
+    fn is_short(&self) -> bool {
+        false
+    }
+
     /// Handles an event. The turn comes with no calls made. A turn that doesn't end as `Starved`
     /// has the calls and the end that the charter promises.
     fn turn(&self, t: &mut Turn, e: &Event) -> End
@@ -36,6 +43,11 @@ pub trait Listener: Send + Sync + Drop {
     /// Its charter.
     fn charter(&self) -> ListenerCharter
         ensures { result ≡ listens self.now };
+
+    /// Whether each of its turns takes as little time as [`SipServlet::is_short`] says.
+    fn is_short(&self) -> bool {
+        false
+    }
 
     /// The application session has expired (JSR 289 section 6.1.2.1). The turn comes with no calls
     /// made.

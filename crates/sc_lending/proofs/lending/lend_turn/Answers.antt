@@ -8,11 +8,11 @@ returns-then-not-is_turn_due-clause-ok g c = moves_same _ _
 pub returns-in-Ok-clause-ok : goal.returns-in-Ok-clause-ok
 returns-in-Ok-clause-ok g c = same_moves _ _ _ _ (c.lease.ensures _)
 
-pub returns-in-Err-post_at-clause-ok : goal.returns-in-Err-post_at-clause-ok
-returns-in-Err-post_at-clause-ok g c = on_moves _ _ _ _ _ _ _ (same_moves _ _ _ _ (c.lease.ensures _)) c.make_turn.ensures.ok
+pub returns-in-Err-offer-clause-ok : goal.returns-in-Err-offer-clause-ok
+returns-in-Err-offer-clause-ok g c = on_moves _ _ _ _ _ _ _ (same_moves _ _ _ _ (c.lease.ensures _)) c.make_turn.ensures.ok
 
-pub returns-in-Err-post_at-clause-err : goal.returns-in-Err-post_at-clause-err
-returns-in-Err-post_at-clause-err g c = on_breaks _ _ _ _ _ _ _ (same_moves _ _ _ _ (c.lease.ensures _)) c.make_turn.ensures.err
+pub returns-in-Err-offer-clause-err : goal.returns-in-Err-offer-clause-err
+returns-in-Err-offer-clause-err g c = on_breaks _ _ _ _ _ _ _ (same_moves _ _ _ _ (c.lease.ensures _)) c.make_turn.ensures.err
 
 pub returns-in-Ok-None-clause-ok : goal.returns-in-Ok-None-clause-ok
 returns-in-Ok-None-clause-ok g c = same_moves _ _ _ _ (c.lease.ensures _)
