@@ -1,1 +1,4 @@
+pub mod Beside
+pub mod Busy
 pub mod Starts
+pub mod Still

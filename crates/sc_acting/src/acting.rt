@@ -11,12 +11,13 @@ ghost use Rattle.sc_acting.specs.Acts.{begin_order, sent_to};
 use crate::changing::{draw, give, proxy_now, rest, with_branch};
 use crate::closing::{closes, sends_cancels};
 use crate::forwarding::{chooses, passes};
+use crate::quiet::acting;
 use sc_branches::{new_branch, records_route, starting};
 use sc_legs::is_invalid;
 use sc_messages::{on_branch, proxied_request};
 use sc_state::{Branch, Order, Proxy, Working};
 use sc_terms::{Config, View};
-use sc_value::{CloneIn, Directive, NoMemory, Request, Shared, Uri, sum, sum_u32};
+use sc_value::{Directive, NoMemory, Request, Shared, Uri, sum, sum_u32};
 use std::alloc::Global;
 
 fn proxied(
@@ -170,11 +171,10 @@ fn each_acts(
 }
 
 /// All proxied requests act, in the order of their numbers; one whose SipSession the application
-/// ended does nothing.
-#[tactic(auto, unfolding(sc_hosts::specs::Acting::all_act))]
+/// ended does nothing. Those are passed over that have nothing to do.
 pub fn all_act(alloc: Global, config: &Config, working: &mut Working) -> Result<(), NoMemory>
     ensures { OnOk result (working.new ≡ all_act config.now working.old) }
 {
-    let proxies = working.known.proxies.clone_in(alloc)?;
+    let proxies = acting(alloc, &working.known.proxies)?;
     each_acts(alloc, config, working, proxies.as_slice())
 }

@@ -6,6 +6,7 @@ mod acting;
 mod changing;
 mod closing;
 mod forwarding;
+mod quiet;
 
 pub use acting::all_act;
 pub use changing::{draw, give};
