@@ -1,4 +1,5 @@
 pub mod Ends
 pub mod Partings
 pub mod Passing
+pub mod Rising
 pub mod Sweeps

@@ -6,6 +6,7 @@ mod faults;
 mod later;
 mod parting;
 mod readiness;
+mod rising;
 mod sweeping;
 mod turns;
 

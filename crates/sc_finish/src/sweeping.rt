@@ -5,12 +5,14 @@ ghost use Rattle.std.specs.List.{fold};
 ghost use Rattle.std.specs.Option.{option_copied, option_map_or};
 ghost use Rattle.sc_hosts.specs.Finishing.{can_derive, can_succeed, is_needed, lacks_final, swept, without_acks, without_unneeded};
 ghost use Rattle.sc_hosts.specs.Looking.{request_in, same_request};
+ghost use Rattle.sc_finish.specs.Rising.{are_rising};
 ghost use Rattle.sc_finish.specs.Sweeps.{can_be_needed, goes, id_of, stays, without};
 
 use crate::readiness::{is_session_ready, lacks_final};
+use crate::rising::{are_rising, request_among};
 use sc_effects::{removed, tidy};
 use sc_legs::leg_among;
-use sc_looking::{is_gone_in, request_in};
+use sc_looking::is_gone_in;
 use sc_methods::{is_ack, is_invite};
 use sc_state::{Kept, Known, Leg, Session, Way};
 use sc_terms::{RequestView, SessionView, View};
@@ -91,10 +93,11 @@ pub fn without_acks(view: &mut View)
     keep_staying(&mut view.requests);
 }
 
-fn lacks_final_of(view: &View, req: ReqId) -> bool
+fn lacks_final_of(view: &View, rising: bool, req: ReqId) -> bool
+    requires { rising ≡ are_rising view.now.requests }
     ensures { result ≡ option_map_or lacks_final (request_in view.entry.now req) false }
 {
-    match request_in(view, req) {
+    match request_among(view.requests.as_slice(), rising, req) {
         Some(request) => lacks_final(request),
         None => false,
     }
@@ -130,13 +133,14 @@ fn can_succeed(view: &View, leg: Option<&Leg>, kept: &Kept) -> bool
 }
 
 #[tactic(auto, unfolding(sc_hosts::specs::Finishing::is_needed, crate::specs::Sweeps::can_be_needed))]
-fn needed(view: &View, legs: &[Leg], kept: &Kept) -> bool
+fn needed(view: &View, rising: bool, legs: &[Leg], kept: &Kept) -> bool
+    requires { rising ≡ are_rising view.now.requests }
     ensures { result ≡ can_be_needed view.entry.now legs.now kept.now }
 {
     match kept.way {
-        Way::Received { .. } => lacks_final_of(view, kept.id),
+        Way::Received { .. } => lacks_final_of(view, rising, kept.id),
         Way::Sent { .. } => {
-            request_in(view, kept.id).is_some()
+            request_among(view.requests.as_slice(), rising, kept.id).is_some()
                 || can_succeed(view, leg_among(legs, kept.sess), kept)
         }
     }
@@ -145,7 +149,8 @@ fn needed(view: &View, legs: &[Leg], kept: &Kept) -> bool
 fn keep_needed(view: &View, legs: &[Leg], kept: &mut List<Kept>)
     ensures { kept.new ≡ filter (can_be_needed view.entry.now legs.now) kept.old }
 {
-    kept.items.retain(|kept| needed(view, legs, kept));
+    let rising = are_rising(view.requests.as_slice());
+    kept.items.retain(|kept| needed(view, rising, legs, kept));
 }
 
 /// Of the requests only those are kept that can still be needed.
