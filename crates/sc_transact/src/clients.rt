@@ -12,7 +12,7 @@ ghost use Rattle.sc_transact.specs.Ringing.{is_ringing};
 use crate::names::counted_part;
 use crate::probes::Answered;
 use sc_parts::{ClientItem, ClientOut};
-use sc_stages::{branch_of, has_provisional, top_via};
+use sc_stages::{branch_of, top_via};
 use sc_state::{Client, Host, Peer, Session, is_invite_client, is_same_app, text_number};
 use sc_value::{AppId, CloneIn, List, NoMemory, Response, Shared, Via};
 use std::alloc::Global;
@@ -110,9 +110,7 @@ pub fn with_client(alloc: Global, client: Client, host: &mut Host<Session>) -> R
 fn is_ringing(app: AppId, client: &Client) -> bool
     ensures { result ≡ is_ringing app client.now }
 {
-    is_same_app(client.app, app)
-        && is_invite_client(client)
-        && has_provisional(client.passed.as_slice())
+    is_same_app(client.app, app) && is_invite_client(client) && client.passed.has_provisional()
 }
 
 fn ringing_in(alloc: Global, app: AppId, clients: &[Shared<Client>]) -> Result<List<u64>, NoMemory>

@@ -7,7 +7,6 @@ ghost use Rattle.sc_hosts.specs.Transacting.{is_cancelled_by, is_acked_by, is_re
 
 use crate::probes::{Acked, Cancelled, Repeated};
 use sc_parts::ServerItem;
-use sc_stages::has_final_answer;
 use sc_state::{Host, Peer, Server, Session, via_number};
 use sc_value::{CloneIn, NoMemory, Request, Shared};
 use std::alloc::Global;
@@ -16,7 +15,7 @@ use std::alloc::Global;
 pub fn has_final(server: &Server) -> bool
     ensures { result ≡ has_final server.now }
 {
-    has_final_answer(server.passed.as_slice())
+    server.passed.has_final()
 }
 
 /// The INVITE that a CANCEL is for (RFC 3261 section 9.2), None where there is none.

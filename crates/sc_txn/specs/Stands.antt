@@ -1,10 +1,11 @@
 -- What a transaction of the code holds, and which lists of what has passed a transaction it stands
 -- for (RFC 3261 section 17, RFC 6026).
-use Rattle.std.specs.Prelude.{◌≡◌, ℕ, Bool, List, ◌∷◌}
+use Rattle.std.specs.Prelude.{◌≡◌, ℕ, Bool, List, ◌∷◌, is_some}
 use Rattle.sc_parts.specs.declared.transactions.ClientOut.{ClientOut}
 use Rattle.sc_parts.specs.declared.transactions.ClientItem.{ClientItem}
 use Rattle.sc_parts.specs.declared.transactions.ServerItem.{ServerItem}
-use Rattle.sc_model.specs.Transactions.{client_out}
+use Rattle.sc_model.specs.ServerTransactions.{final_answer}
+use Rattle.sc_model.specs.Transactions.{client_out, has_provisional}
 use Rattle.sc_stages.specs.Stages as stages
 use Rattle.sc_stages.specs.declared.clients.ClientStage.{ClientStage}
 use Rattle.sc_stages.specs.declared.servers.ServerStage.{ServerStage}
@@ -47,3 +48,16 @@ abbrev pub ServerTakes : Server → Server → ServerItem → Type 0
 ServerTakes old new item =
     (invite : Bool) (passed : List ServerItem) → ServerStands old invite passed
     → ServerStands new invite (item ∷ passed)
+
+-- ## What is told without a look at the list
+
+-- of a client transaction: what has become of it, and whether a provisional response came
+pub record ClientTold (t : Client) (sent : ℕ) (provisional : Bool)
+    (passed : List ClientItem) : Type 0 where
+  pub stands : ClientStands t t.invite sent passed
+  pub provisional_is : provisional ≡ has_provisional passed
+
+-- of a server transaction: what has become of it, and whether a final answer was given
+pub record ServerTold (t : Server) (decided : Bool) (passed : List ServerItem) : Type 0 where
+  pub stands : ServerStands t t.invite passed
+  pub decided_is : decided ≡ is_some (final_answer passed)

@@ -1,13 +1,14 @@
 //! What has passed a client transaction, and what has become of it.
 
-ghost use Rattle.std.specs.Prelude.{◌≡◌, [], ◌∷◌, OnOk, OnErr, IfOk};
-ghost use Rattle.sc_model.specs.Transactions.{client_state, client_due, client_out};
+ghost use Rattle.std.specs.Prelude.{◌≡◌, ◌+◌, ◌∷◌, ◌||◌, [], ℕ, Bool, reverse, take, OnOk, OnErr, IfOk};
+ghost use Rattle.sc_model.specs.Transactions.{client_state, client_due, client_out, has_provisional};
 ghost use Rattle.sc_txn.specs.Stands.{ClientStands};
 
 use crate::ClientTxn;
-use crate::first::put_first;
 use sc_parts::{ClientItem, ClientOut, TxnState};
-use sc_value::{CloneIn, List, NoMemory};
+use sc_queue::LongList;
+use sc_stages::has_provisional;
+use sc_value::{CloneIn, NoMemory};
 use std::alloc::Global;
 use std::marker::Model;
 
@@ -15,42 +16,47 @@ use std::marker::Model;
 /// of the transaction, so that none of its questions goes through the list.
 #[derive(Drop)]
 pub struct ClientPast {
-    items: List<ClientItem>,
+    /// What has passed it, the oldest first.
+    items: LongList<ClientItem>,
+    /// Whether a provisional response is among it.
+    provisional: bool,
     /// The moment at which the request was sent, in milliseconds.
     sent: u64,
     txn: ClientTxn,
 }
 
 impl Model for ClientPast {
-    ghost use Rattle.std.specs.Prelude.{List as Items};
+    ghost use Rattle.std.specs.Prelude.{List as Items, reverse};
     ghost use Rattle.sc_parts.specs.declared.transactions.ClientItem.{ClientItem as Item};
-    ghost use Rattle.sc_txn.specs.Stands.{ClientStands};
+    ghost use Rattle.sc_txn.specs.Stands.{ClientTold};
 
     ghost Value = { Items Item };
 
-    ghost view = { λ p. p.items };
+    ghost view = { λ p. reverse p.items };
 
-    ghost invariant = { λ p. ClientStands p.txn p.txn.invite p.sent p.items };
+    ghost invariant = { λ p. ClientTold p.txn p.sent p.provisional (reverse p.items) };
 }
 
 impl ClientPast {
     /// Nothing has passed the transaction of an INVITE, or of another request, that is sent at this
     /// moment, in milliseconds. It takes no memory.
+    #[tactic(auto, using(crate::proofs::Pasts::client_begun))]
     pub fn new(alloc: Global, invite: bool, sent: u64) -> ClientPast
         ensures { result ≡ [] }
     {
         ClientPast {
-            items: List::new(alloc),
+            items: LongList::new(alloc),
+            provisional: false,
             sent,
             txn: ClientTxn::new(invite, sent),
         }
     }
 
-    /// What has passed it, the newest first.
-    pub fn as_slice(&self) -> &[ClientItem]
-        ensures { result.now ≡ self.now }
+    /// Whether a provisional response has passed it.
+    pub fn has_provisional(&self) -> bool
+        ensures { result ≡ has_provisional self.now }
     {
-        self.items.as_slice()
+        self.provisional
     }
 
     /// An item passes it. On an error nothing is changed.
@@ -58,7 +64,8 @@ impl ClientPast {
         ensures ok { OnOk result (self.new ≡ item ∷ self.old) }
         ensures err { OnErr result (self.new ≡ self.old) }
     {
-        put_first(item, &mut self.items)?;
+        self.items.push(item)?;
+        self.provisional = provisional_with(item, self.provisional);
         self.txn.take(item);
         Ok(())
     }
@@ -70,7 +77,7 @@ impl ClientPast {
         if self.txn.is_invite() == invite && self.sent == sent {
             return self.txn;
         }
-        ClientTxn::after(invite, sent, self.as_slice())
+        txn_after(invite, sent, &self.items)
     }
 
     /// The state of the transaction of an INVITE, or of another request, that was sent at this
@@ -101,8 +108,40 @@ impl CloneIn for ClientPast {
     fn clone_in(&self, alloc: Global) -> Result<ClientPast, NoMemory> {
         Ok(ClientPast {
             items: self.items.clone_in(alloc)?,
+            provisional: self.provisional,
             sent: self.sent,
             txn: self.txn,
         })
     }
+}
+
+// Whether a provisional response is among what passed, with this item.
+fn provisional_with(item: ClientItem, before: bool) -> bool
+    ensures { result ≡ (has_provisional (item ∷ []) || before) }
+{
+    has_provisional(&[item]) || before
+}
+
+// The item at this place passes the transaction, where there is one.
+fn take_at(items: &LongList<ClientItem>, at: usize, txn: &mut ClientTxn)
+    ensures { (invite : Bool) (sent : ℕ) → ClientStands txn.old invite sent (reverse (take at items.now))
+        → ClientStands txn.new invite sent (reverse (take (at + 1) items.now)) }
+{
+    match items.get(at) {
+        Some(item) => {
+            txn.take(*item);
+        }
+        None => {}
+    }
+}
+
+// The transaction that these items have passed, the oldest first.
+fn txn_after(invite: bool, sent: u64, items: &LongList<ClientItem>) -> ClientTxn
+    ensures { ClientStands result invite sent (reverse items.now) }
+{
+    let mut txn = ClientTxn::new(invite, sent);
+    for at in 0..items.len() {
+        take_at(items, at, &mut txn);
+    }
+    txn
 }

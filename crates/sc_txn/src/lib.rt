@@ -5,7 +5,6 @@
 
 mod client;
 mod client_past;
-mod first;
 mod server;
 mod server_past;
 

@@ -1,13 +1,14 @@
 //! What has passed a server transaction, and what has become of it.
 
-ghost use Rattle.std.specs.Prelude.{◌≡◌, [], ◌∷◌, OnOk, OnErr, IfOk};
-ghost use Rattle.sc_model.specs.ServerTransactions.{server_state, server_due, is_sent, is_sent_again};
+ghost use Rattle.std.specs.Prelude.{◌≡◌, ◌+◌, ◌∷◌, ◌||◌, [], Bool, reverse, take, is_some, OnOk, OnErr, IfOk};
+ghost use Rattle.sc_model.specs.ServerTransactions.{final_answer, server_state, server_due, is_sent, is_sent_again};
 ghost use Rattle.sc_txn.specs.Stands.{ServerStands};
 
 use crate::ServerTxn;
-use crate::first::put_first;
 use sc_parts::{ServerItem, TxnState};
-use sc_value::{CloneIn, List, NoMemory};
+use sc_queue::LongList;
+use sc_stages::has_final_answer;
+use sc_value::{CloneIn, NoMemory};
 use std::alloc::Global;
 use std::marker::Model;
 
@@ -15,38 +16,43 @@ use std::marker::Model;
 /// of the transaction, so that none of its questions goes through the list.
 #[derive(Drop)]
 pub struct ServerPast {
-    items: List<ServerItem>,
+    /// What has passed it, the oldest first.
+    items: LongList<ServerItem>,
+    /// Whether a final answer is among it.
+    decided: bool,
     txn: ServerTxn,
 }
 
 impl Model for ServerPast {
-    ghost use Rattle.std.specs.Prelude.{List as Items};
+    ghost use Rattle.std.specs.Prelude.{List as Items, reverse};
     ghost use Rattle.sc_parts.specs.declared.transactions.ServerItem.{ServerItem as Item};
-    ghost use Rattle.sc_txn.specs.Stands.{ServerStands};
+    ghost use Rattle.sc_txn.specs.Stands.{ServerTold};
 
     ghost Value = { Items Item };
 
-    ghost view = { λ p. p.items };
+    ghost view = { λ p. reverse p.items };
 
-    ghost invariant = { λ p. ServerStands p.txn p.txn.invite p.items };
+    ghost invariant = { λ p. ServerTold p.txn p.decided (reverse p.items) };
 }
 
 impl ServerPast {
     /// Nothing has passed the transaction of an INVITE, or of another request. It takes no memory.
+    #[tactic(auto, using(crate::proofs::Pasts::server_begun))]
     pub fn new(alloc: Global, invite: bool) -> ServerPast
         ensures { result ≡ [] }
     {
         ServerPast {
-            items: List::new(alloc),
+            items: LongList::new(alloc),
+            decided: false,
             txn: ServerTxn::new(invite),
         }
     }
 
-    /// What has passed it, the newest first.
-    pub fn as_slice(&self) -> &[ServerItem]
-        ensures { result.now ≡ self.now }
+    /// Whether a final answer was given.
+    pub fn has_final(&self) -> bool
+        ensures { result ≡ is_some (final_answer self.now) }
     {
-        self.items.as_slice()
+        self.decided
     }
 
     /// An item passes it. On an error nothing is changed.
@@ -54,7 +60,8 @@ impl ServerPast {
         ensures ok { OnOk result (self.new ≡ item ∷ self.old) }
         ensures err { OnErr result (self.new ≡ self.old) }
     {
-        put_first(item, &mut self.items)?;
+        self.items.push(item)?;
+        self.decided = decided_with(item, self.decided);
         self.txn.take(item);
         Ok(())
     }
@@ -66,7 +73,7 @@ impl ServerPast {
         if self.txn.is_invite() == invite {
             return self.txn;
         }
-        ServerTxn::after(invite, self.as_slice())
+        txn_after(invite, &self.items)
     }
 
     /// The state of the transaction of an INVITE, or of another request.
@@ -103,7 +110,39 @@ impl CloneIn for ServerPast {
     fn clone_in(&self, alloc: Global) -> Result<ServerPast, NoMemory> {
         Ok(ServerPast {
             items: self.items.clone_in(alloc)?,
+            decided: self.decided,
             txn: self.txn,
         })
     }
+}
+
+// Whether a final answer is among what passed, with this item.
+fn decided_with(item: ServerItem, before: bool) -> bool
+    ensures { result ≡ (is_some (final_answer (item ∷ [])) || before) }
+{
+    has_final_answer(&[item]) || before
+}
+
+// The item at this place passes the transaction, where there is one.
+fn take_at(items: &LongList<ServerItem>, at: usize, txn: &mut ServerTxn)
+    ensures { (invite : Bool) → ServerStands txn.old invite (reverse (take at items.now))
+        → ServerStands txn.new invite (reverse (take (at + 1) items.now)) }
+{
+    match items.get(at) {
+        Some(item) => {
+            txn.take(*item);
+        }
+        None => {}
+    }
+}
+
+// The transaction that these items have passed, the oldest first.
+fn txn_after(invite: bool, items: &LongList<ServerItem>) -> ServerTxn
+    ensures { ServerStands result invite (reverse items.now) }
+{
+    let mut txn = ServerTxn::new(invite);
+    for at in 0..items.len() {
+        take_at(items, at, &mut txn);
+    }
+    txn
 }
