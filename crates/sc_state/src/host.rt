@@ -1,5 +1,6 @@
 use crate::{Host, Timed, Waiting};
 use sc_parts::TimerName;
+use sc_queue::Queue;
 use sc_txn::{ClientPast, ServerPast};
 use sc_value::{AppId, List, Message, Place, Request, Response, Shared, Text};
 
@@ -72,7 +73,7 @@ pub struct Live<S> {
     pub serial: u64,
     pub session: Shared<S>,
     /// The events that wait, in order.
-    pub inbox: List<Waiting>,
+    pub inbox: Queue<Waiting>,
     /// The moment at which the first of them became first.
     pub since: u64,
     pub fired: List<Fired>,

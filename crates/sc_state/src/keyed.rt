@@ -92,7 +92,7 @@ impl<S: Timed> Item for Live<S> {
     }
 
     fn first(&self) -> Option<u64> {
-        match self.inbox.as_slice().first() {
+        match self.inbox.first() {
             Some(waiting) => Some(waiting.number),
             None => None,
         }

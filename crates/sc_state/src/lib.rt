@@ -27,6 +27,7 @@ pub use net::{Entry, Net, Note};
 pub use orders::{Order, Outcome};
 pub use proxy::{Branch, Passing, Proxy};
 pub use queue::{Queued, Waiting};
+pub use sc_queue::Queue;
 pub use sc_txn::{ClientPast, ServerPast};
 pub use session::{Got, Invited, Kept, Known, Leg, Session, Way};
 pub use standing::{

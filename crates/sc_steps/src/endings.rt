@@ -85,7 +85,10 @@ fn ended_by(
         (net.new ≡ without_application setup.now app session.now (inbox_of live.now) net.old) }
 {
     match live {
-        Some(live) => invalidated(alloc, setup, app, session, live.get().inbox.as_slice(), net),
+        Some(live) => {
+            let inbox = live.get().inbox.to_list()?;
+            invalidated(alloc, setup, app, session, inbox.as_slice(), net)
+        }
         None => invalidated(alloc, setup, app, session, &[], net),
     }
 }
@@ -118,14 +121,9 @@ fn withdrawn_by(
     match live {
         Some(live) => {
             let live = live.get();
-            invalidated(
-                alloc,
-                setup,
-                app,
-                live.session.get(),
-                live.inbox.as_slice(),
-                net,
-            )
+            let inbox = live.inbox.to_list()?;
+            let session = live.session.get();
+            invalidated(alloc, setup, app, session, inbox.as_slice(), net)
         }
         None => Ok(()),
     }

@@ -5,7 +5,7 @@ ghost use Rattle.sc_value.specs.Lists.{change_nth};
 ghost use Rattle.sc_hosts.specs.Steps.{still_fired};
 ghost use Rattle.sc_steps.specs.TurnParts.{is_running, live_after, host_after, net_after};
 
-use sc_state::{Fired, Host, Live, Net, Session, Waiting};
+use sc_state::{Fired, Host, Live, Net, Queue, Session, Waiting};
 use sc_ticks::runs;
 use sc_value::{AppId, CloneIn, List, NoMemory, Shared};
 use std::alloc::Global;
@@ -42,24 +42,12 @@ fn still_fired(alloc: Global, session: &Session, fired: &[Fired]) -> Result<List
     Ok(running)
 }
 
-fn add_waiting(alloc: Global, events: &[Waiting], inbox: &mut List<Waiting>) -> Result<(), NoMemory>
-    ensures { OnOk result (inbox.new ≡ inbox.old ++ events.now) }
-{
-    for waiting in events {
-        let own = waiting.clone_in(alloc)?;
-        inbox.push(own)?;
-    }
-    Ok(())
-}
-
 // The events that wait behind the first.
-fn behind_first(alloc: Global, inbox: &[Waiting]) -> Result<List<Waiting>, NoMemory>
+fn behind_first(alloc: Global, inbox: &Queue<Waiting>) -> Result<Queue<Waiting>, NoMemory>
     ensures { IfOk result (λ behind. behind ≡ drop 1 inbox.now) }
 {
-    let mut behind = List::new(alloc);
-    if let [_, rest @ ..] = inbox {
-        add_waiting(alloc, rest, &mut behind)?;
-    }
+    let mut behind = inbox.clone_in(alloc)?;
+    behind.pop(alloc)?;
     Ok(behind)
 }
 
@@ -73,7 +61,7 @@ fn live_after(
     ensures { IfOk result (λ own. own ≡ live_after now session.now live.now) }
 {
     let fired = still_fired(alloc, session.get(), live.fired.as_slice())?;
-    let inbox = behind_first(alloc, live.inbox.as_slice())?;
+    let inbox = behind_first(alloc, &live.inbox)?;
     let session = session.clone_in(alloc)?;
     let own = Live {
         serial: live.serial,

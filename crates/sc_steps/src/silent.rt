@@ -51,7 +51,10 @@ fn goodbye_at(
         given ≡ goodbye config.now session.now (drop 1 (inbox_of (live_at app net.now)))) }
 {
     match live_at(app, net) {
-        Some(live) => goodbye_behind(alloc, config, session, live.inbox.as_slice()),
+        Some(live) => {
+            let inbox = live.inbox.to_list()?;
+            goodbye_behind(alloc, config, session, inbox.as_slice())
+        }
         None => goodbye(alloc, config, session, &[]),
     }
 }

@@ -184,7 +184,7 @@ fn turns_by(
                 setup,
                 begun,
                 live.session.get(),
-                live.inbox.as_slice().get(0),
+                live.inbox.first(),
                 made,
                 net,
             )

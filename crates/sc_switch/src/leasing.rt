@@ -264,7 +264,7 @@ fn offer_of(
     requires kind { is_some (app_of setup.now.config app.host) ≡ true }
     ensures { IfOk result (λ offered. OffersBegun setup.now net.now app number offered) }
 {
-    match live.inbox.as_slice().first() {
+    match live.inbox.first() {
         Some(waiting) => {
             let first = First { app, live, waiting };
             Ok(Some(offer_waiting(alloc, setup, net, &first, number)?))

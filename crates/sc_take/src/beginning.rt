@@ -10,7 +10,7 @@ ghost use Rattle.sc_inboxes.specs.TakenParts.{taken_by};
 use sc_inboxes::{Told, quiet, refuse_full, refuse_unknown, with_server, with_trying};
 use sc_legs::fresh;
 use sc_names::tag;
-use sc_state::{Coming, Host, Live, Note, Queued, Session, Waiting};
+use sc_state::{Coming, Host, Live, Note, Queue, Queued, Session, Waiting};
 use sc_terms::Config;
 use sc_value::{AppId, CloneIn, List, NoMemory, Request, Shared, Text, sum};
 use std::alloc::Global;
@@ -36,7 +36,7 @@ fn first_inbox(
     noted: &Note,
     request: &Shared<Request>,
     number: u64,
-) -> Result<List<Waiting>, NoMemory>
+) -> Result<Queue<Waiting>, NoMemory>
     ensures { IfOk result
         (λ l.
         l
@@ -47,7 +47,7 @@ fn first_inbox(
         } ∷ []) }
 {
     let event = first_event(alloc, noted, request)?;
-    let mut inbox = List::new(alloc);
+    let mut inbox = Queue::new(alloc);
     inbox.push(Waiting { number, event })?;
     Ok(inbox)
 }
