@@ -15,10 +15,15 @@ pub fn let_go(call: Call) {
     drop(call);
 }
 
+// The first two calls take room for themselves alone, as few turns make more, and a call is large.
 fn make_room(calls: &mut Vec<CallRecord>) -> Result<(), NoMemory>
     ensures items { calls.new.items ≡ calls.old.items }
     ensures ok { OnOk result (vec_len calls.new < vec_capacity calls.new) }
 {
+    if calls.len() < 2 {
+        calls.reserve_exact(1)?;
+        return Ok(());
+    }
     calls.reserve(1)?;
     Ok(())
 }
