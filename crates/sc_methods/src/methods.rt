@@ -6,12 +6,14 @@ ghost use Rattle.sc_model.specs.DialogRequests.{cancel};
 ghost use Rattle.sc_model.specs.Dialogs.{notify, subscribe};
 ghost use Rattle.sc_model.specs.SessionStates.{ack, bye, invite};
 
+use crate::words::is_word;
+
 /// Whether a method is ACK.
 #[tactic(auto, unfolding(sc_model::specs::SessionStates::ack))]
 pub fn is_ack(method: &[u8]) -> bool
     ensures { result ≡ same_bytes method.now ack }
 {
-    method == b"ACK".as_slice()
+    is_word(method, b"ACK")
 }
 
 /// Whether a method is BYE.
@@ -19,7 +21,7 @@ pub fn is_ack(method: &[u8]) -> bool
 pub fn is_bye(method: &[u8]) -> bool
     ensures { result ≡ same_bytes method.now bye }
 {
-    method == b"BYE".as_slice()
+    is_word(method, b"BYE")
 }
 
 /// Whether a method is CANCEL.
@@ -27,7 +29,7 @@ pub fn is_bye(method: &[u8]) -> bool
 pub fn is_cancel(method: &[u8]) -> bool
     ensures { result ≡ same_bytes method.now cancel }
 {
-    method == b"CANCEL".as_slice()
+    is_word(method, b"CANCEL")
 }
 
 /// Whether a method is INVITE.
@@ -35,7 +37,7 @@ pub fn is_cancel(method: &[u8]) -> bool
 pub fn is_invite(method: &[u8]) -> bool
     ensures { result ≡ same_bytes method.now invite }
 {
-    method == b"INVITE".as_slice()
+    is_word(method, b"INVITE")
 }
 
 /// Whether a method is NOTIFY.
@@ -43,7 +45,7 @@ pub fn is_invite(method: &[u8]) -> bool
 pub fn is_notify(method: &[u8]) -> bool
     ensures { result ≡ same_bytes method.now notify }
 {
-    method == b"NOTIFY".as_slice()
+    is_word(method, b"NOTIFY")
 }
 
 /// Whether a method is SUBSCRIBE.
@@ -51,5 +53,5 @@ pub fn is_notify(method: &[u8]) -> bool
 pub fn is_subscribe(method: &[u8]) -> bool
     ensures { result ≡ same_bytes method.now subscribe }
 {
-    method == b"SUBSCRIBE".as_slice()
+    is_word(method, b"SUBSCRIBE")
 }
