@@ -61,6 +61,41 @@ pub fn head_of(
     }
 }
 
+/// What a message without Contacts, other headers and body says.
+pub fn no_content(alloc: Global) -> Content
+    ensures { result ≡ record { contact = []; others = []; body = [] } }
+{
+    Content {
+        contact: SharedList::new(alloc),
+        others: Others::new(alloc),
+        body: Text::new(alloc),
+    }
+}
+
+/// What names the transaction and the dialog of a message.
+pub fn names_of(alloc: Global, head: &Head) -> Result<Names, NoMemory>
+    ensures { IfOk result
+        (λ n.
+        n
+        ≡ record {
+          from = head.now.from;
+          to = head.now.to;
+          call_id = head.now.call_id;
+          cseq = head.now.cseq;
+        }) }
+{
+    let call_id = head.call_id.clone_in(alloc)?;
+    let cseq = head.cseq.clone_in(alloc)?;
+    let from = head.from.clone_in(alloc)?;
+    let to = head.to.clone_in(alloc)?;
+    Ok(Names {
+        from,
+        to,
+        call_id,
+        cseq,
+    })
+}
+
 /// A sequence number with its method.
 pub fn cseq(alloc: Global, number: u32, method: &Token) -> Result<CSeq, NoMemory>
     requires { number < 2 ^ 31 }
@@ -116,11 +151,4 @@ pub fn set_response_routes(response: &mut Response, routes: SharedList<Address>)
         ≡ record response.old { head = record response.old.head { record_route = routes } } }
 {
     response.head.record_route = routes;
-}
-
-/// Puts this To in place of a response's own.
-pub fn set_response_to(response: &mut Response, to: Shared<Address>)
-    ensures { response.new ≡ record response.old { head = record response.old.head { to = to } } }
-{
-    response.head.to = to;
 }

@@ -1,6 +1,6 @@
 //! Requests: the own ones, those that are passed on, CANCEL and ACK.
 
-ghost use Rattle.std.specs.Prelude.{◌≡◌, ◌∷◌, [], option_map, unwrap_or, slice_get, map, if◌then◌else◌, IfOk};
+ghost use Rattle.std.specs.Prelude.{◌≡◌, ◌++◌, ◌∷◌, [], option_map, unwrap_or, slice_get, map, if◌then◌else◌, IfOk, OnOk};
 ghost use Rattle.sc_model.specs.Dialogs.{sets_target};
 ghost use Rattle.sc_model.specs.Responses.{kept_field};
 ghost use Rattle.sc_hosts.specs.Messages.{ack_of, asked_request, begins_dialog, cancel_of, from_here, kin, leg_request, on_branch, own_address, passed_request, proxied_request};
@@ -8,14 +8,14 @@ ghost use Rattle.sc_model.specs.Responses.{address_with_tag, address_without_tag
 
 use crate::own::{own_address, own_via};
 use crate::parts::{
-    Content, Names, cseq, head_of, set_contact, set_record_route, set_uri, set_via,
+    Content, Names, cseq, head_of, no_content, set_contact, set_record_route, set_uri, set_via,
 };
 use crate::sides::{tagged, untagged};
 use sc_dialog::{asked_method, kept_fields};
 use sc_terms::{Ask, Config, View};
 use sc_value::{
-    Address, AppId, CloneIn, Contact, Head, HeaderValue, List, NoMemory, Others, Request, Response,
-    Shared, SharedList, Text, Token, Uri, Via,
+    Address, AppId, CloneIn, Contact, Head, HeaderValue, List, NoMemory, Request, Response, Shared,
+    SharedList, Text, Token, Uri, Via,
 };
 use std::alloc::Global;
 
@@ -31,20 +31,31 @@ pub fn on_branch(
     ensures { IfOk result (λ r. r ≡ on_branch config.now view.entry.now branch request.now) }
 {
     let own = own_via(alloc, config, view.epoch, view.app, branch)?;
-    let via = behind(alloc, own, &request.head.via)?;
+    let via = behind(alloc, own, request.head.via.as_slice())?;
     let mut copy = request.clone_in(alloc)?;
     set_via(&mut copy, via);
     Ok(copy)
 }
 
 // The Vias with this one on top.
-fn behind(alloc: Global, top: Via, vias: &List<Via>) -> Result<List<Via>, NoMemory>
+fn behind(alloc: Global, top: Via, vias: &[Via]) -> Result<List<Via>, NoMemory>
     ensures { IfOk result (λ l. l ≡ top ∷ vias.now) }
 {
-    let mut copy = vias.clone_in(alloc)?;
-    copy.items.reserve_exact(1)?;
-    copy.items.insert(0, top)?;
-    Ok(copy)
+    let mut all = List {
+        items: Vec::with_capacity(alloc, vias.len().saturating_add(1))?,
+    };
+    all.push(top)?;
+    add_copies(alloc, vias, &mut all)?;
+    Ok(all)
+}
+
+fn add_copies(alloc: Global, vias: &[Via], all: &mut List<Via>) -> Result<(), NoMemory>
+    ensures { OnOk result (all.new ≡ all.old ++ vias.now) }
+{
+    for via in vias {
+        all.push(via.clone_in(alloc)?)?;
+    }
+    Ok(())
 }
 
 /// A request that an application makes, with the own Contact where it sets the target of a dialog.
@@ -375,16 +386,6 @@ fn kin_names(
         call_id,
         cseq,
     })
-}
-
-fn no_content(alloc: Global) -> Content
-    ensures { result ≡ record { contact = []; others = []; body = [] } }
-{
-    Content {
-        contact: SharedList::new(alloc),
-        others: Others::new(alloc),
-        body: Text::new(alloc),
-    }
 }
 
 fn top_via(alloc: Global, vias: &[Via]) -> Result<List<Via>, NoMemory>

@@ -6,14 +6,14 @@ ghost use Rattle.sc_model.specs.Responses.{kept_field, response_head, response_t
 ghost use Rattle.sc_hosts.specs.Messages.{answered_here, bad_response, bare_answer, given_response, makes_dialog, own_response, trying_response, with_routes, without_via};
 
 use crate::parts::{
-    Content, Names, head_of, set_response_contact, set_response_routes, set_response_to,
+    Content, Names, head_of, names_of, no_content, set_response_contact, set_response_routes,
 };
 use crate::requests::{begins_dialog, own_contact, sets_target};
 use crate::sides::with_tag;
 use sc_dialog::kept_fields;
 use sc_terms::{Answer, Config, View};
 use sc_value::{
-    Answerable, CloneIn, Discard, Head, List, NoMemory, Others, Reason, Request, Response, Shared,
+    Answerable, CloneIn, Discard, Head, List, NoMemory, Reason, Request, Response, Shared,
     SharedList, Text, Via, is_one_line,
 };
 use std::alloc::Global;
@@ -220,7 +220,7 @@ fn bare_answer(alloc: Global, code: u16, reason: &[u8]) -> Result<Answer, NoMemo
 }
 
 /// A 100, which has no tag (RFC 3261 section 8.2.6.1).
-#[tactic(auto, unfolding(sc_hosts::specs::Messages::trying_response, sc_hosts::specs::Messages::own_response))]
+#[tactic(auto, unfolding(sc_hosts::specs::Messages::trying_response, sc_hosts::specs::Messages::bare_answer, sc_model::specs::Responses::response_to, sc_model::specs::Responses::response_head))]
 pub fn trying_response(
     alloc: Global,
     reason: &[u8],
@@ -228,10 +228,15 @@ pub fn trying_response(
 ) -> Result<Response, NoMemory>
     ensures { IfOk result (λ r. r ≡ trying_response reason.now request.now) }
 {
-    let to = request.head.to.clone_in(alloc)?;
-    let mut response = own_response(alloc, b"", 100, reason, request)?;
-    set_response_to(&mut response, to);
-    Ok(response)
+    let reason = asked_reason(alloc, reason)?;
+    let via = request.head.via.clone_in(alloc)?;
+    let names = names_of(alloc, &request.head)?;
+    let content = no_content(alloc);
+    Ok(Response {
+        code: 100,
+        reason,
+        head: head_of(alloc, via, List::new(alloc), names, content),
+    })
 }
 
 /// The answer to a text that isn't a message.
@@ -242,11 +247,7 @@ pub fn bad_response(alloc: Global, salt: &Text, heads: &Answerable) -> Result<Re
     let reason = Reason::from_slice(alloc, b"Bad Request")?;
     let via = heads.via.clone_in(alloc)?;
     let names = bad_names(alloc, salt, heads)?;
-    let content = Content {
-        contact: SharedList::new(alloc),
-        others: Others::new(alloc),
-        body: Text::new(alloc),
-    };
+    let content = no_content(alloc);
     Ok(Response {
         code: 400,
         reason,
