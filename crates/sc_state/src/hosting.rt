@@ -634,10 +634,22 @@ fn own_lists<S: Timed>(
 ) -> Result<Arc<HostLists<S>>, NoMemory>
     ensures { IfOk result (λ own. arc_value own ≡ lists_of lists.now) }
 {
-    let own = match lists {
-        Some(lists) => lists.clone_in(alloc)?,
-        None => HostLists::new(alloc),
-    };
+    match lists {
+        Some(lists) => lists_copied(alloc, lists),
+        None => {
+            let own = Arc::new(alloc, HostLists::new(alloc))?;
+            Ok(own)
+        }
+    }
+}
+
+fn lists_copied<S: Timed>(
+    alloc: Global,
+    lists: &HostLists<S>,
+) -> Result<Arc<HostLists<S>>, NoMemory>
+    ensures { IfOk result (λ own. arc_value own ≡ lists.now) }
+{
+    let own = lists.clone_in(alloc)?;
     let own = Arc::new(alloc, own)?;
     Ok(own)
 }
