@@ -36,13 +36,14 @@ pub fn user_uri(alloc: Global, user: &[u8], host: &[u8], port: Option<u16>) -> R
 {
     let user = Text::from_slice(alloc, user)?;
     let host = Text::from_slice(alloc, host)?;
-    Ok(Uri::Sip(SipUri {
+    let uri = SipUri {
         user: Some(user),
         host,
         port,
         params: List::new(alloc),
         headers: None,
-    }))
+    };
+    Uri::sip(alloc, uri)
 }
 
 /// `sip:127.0.0.1:5060;transport=tcp;lr;ap=h-i`.
@@ -52,13 +53,14 @@ pub fn session_uri(alloc: Global, host: u64, i: u64) -> Result<Uri, NoMemory>
 {
     let params = session_params(alloc, host, i)?;
     let host = Text::from_slice(alloc, b"127.0.0.1")?;
-    Ok(Uri::Sip(SipUri {
+    let uri = SipUri {
         user: None,
         host,
         port: Some(5060),
         params,
         headers: None,
-    }))
+    };
+    Uri::sip(alloc, uri)
 }
 
 #[tactic(auto, using(sc_model::proofs::UriFacts::session_kept))]

@@ -10,7 +10,9 @@ ghost use Rattle.sc_hosts.specs.Messages.{own_address, own_via};
 
 use sc_names::{ip_text, loose_param, put_ap_value, tcp_param};
 use sc_terms::Config;
-use sc_value::{Address, AppId, List, NoMemory, Param, SipUri, Text, Token, Uri, Via};
+use sc_value::{
+    Address, AppId, List, NoMemory, Param, SipUri, Text, Token, Uri, Via, plain_address,
+};
 use std::alloc::Global;
 
 /// The Via of a branch (RFC 3261 section 8.1.1.7).
@@ -78,7 +80,7 @@ fn branch_param(
 }
 
 /// The Record-Route and Contact of an application session.
-#[tactic(auto, unfolding(sc_hosts::specs::Messages::own_address, sc_hosts::specs::Messages::plain, sc_tokens::specs::HeaderTokens::IsDisplay, sc_value::specs::AddressValues::IsUri, sc_value::specs::ParamRules::AreHeaderParams))]
+#[tactic(auto, unfolding(sc_hosts::specs::Messages::own_address, sc_hosts::specs::Messages::plain))]
 pub fn own_address(
     alloc: Global,
     config: &Config,
@@ -89,11 +91,8 @@ pub fn own_address(
 {
     let host = ip_text(alloc, config.listen.0)?;
     let uri = session_uri(alloc, host, config.listen.1.get(), epoch, app)?;
-    Ok(Address {
-        display: None,
-        uri: Uri::Sip(uri),
-        params: List::new(alloc),
-    })
+    let uri = Uri::sip(alloc, uri)?;
+    Ok(plain_address(alloc, uri))
 }
 
 #[tactic(auto, unfolding(sc_model::specs::Names::session_uri, sc_model::specs::Names::own_uri, sc_tokens::specs::UriTokens::IsUser))]

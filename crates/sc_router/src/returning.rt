@@ -51,13 +51,14 @@ fn return_uri(alloc: Global, config: &Config, order: u32, region: Region) -> Res
 {
     let host = ip_text(alloc, config.listen.0)?;
     let params = return_params(alloc, order, region)?;
-    Ok(Uri::Sip(SipUri {
+    let uri = SipUri {
         user: None,
         host,
         port: Some(config.listen.1.get()),
         params,
         headers: None,
-    }))
+    };
+    Uri::sip(alloc, uri)
 }
 
 // The own route that leads to this order of the router's list.

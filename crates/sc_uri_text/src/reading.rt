@@ -150,11 +150,12 @@ fn build(
     let user = copy_of(alloc, user)?;
     let host = Text::from_slice(alloc, host)?;
     let headers = shared_copy_of(alloc, headers)?;
-    Ok(Uri::Sip(SipUri {
+    let uri = SipUri {
         user,
         host,
         port,
         params,
         headers,
-    }))
+    };
+    Uri::sip(alloc, uri)
 }

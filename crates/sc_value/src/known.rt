@@ -25,7 +25,7 @@ impl Uri {
         ensures { IsUri self.now }
     {
         match self {
-            Uri::Sip(uri) => uri.known(),
+            Uri::Sip(uri) => uri.get().known(),
             Uri::Other(text) => text.known(),
         }
     }

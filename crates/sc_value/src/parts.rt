@@ -1,10 +1,10 @@
 //! The parts of a message's head (RFC 3261 sections 19.1, 20 and 25.1).
 
-ghost use Rattle.std.specs.Prelude.{◌≡◌, [], None, position};
+ghost use Rattle.std.specs.Prelude.{◌≡◌, [], None, position, IfOk};
 ghost use Rattle.std.specs.Option.{option_copied};
 ghost use Rattle.sc_value.specs.Params.{param_value, branch_name, tag_name, is_named};
 
-use crate::{List, OtherUri, Shared, Text, Token, same_name};
+use crate::{List, NoMemory, OtherUri, Shared, Text, Token, same_name};
 use std::alloc::Global;
 use std::marker::Model;
 
@@ -52,11 +52,21 @@ impl Model for SipUri {
         }) };
 }
 
-/// A `sip:` URI in its parts, or a URI of another scheme as written.
+/// A `sip:` URI in its parts, or a URI of another scheme as written. A copy is one owner more.
 #[derive(Drop)]
 pub enum Uri {
-    Sip(SipUri),
+    Sip(Shared<SipUri>),
     Other(OtherUri),
+}
+
+impl Uri {
+    /// The URI of these parts.
+    pub fn sip(alloc: Global, uri: SipUri) -> Result<Uri, NoMemory>
+        ensures { IfOk result (λ u. u ≡ Uri.Sip uri) }
+    {
+        let uri = Shared::new(alloc, uri)?;
+        Ok(Uri::Sip(uri))
+    }
 }
 
 /// An address with its header parameters (RFC 3261 section 20.10). The display is as written, with
