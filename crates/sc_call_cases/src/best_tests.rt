@@ -42,7 +42,7 @@ fn head(alloc: Global, others: Others) -> Result<Head, NoMemory> {
     let call_id = HeaderValue::from_slice(alloc, b"")?;
     let cseq = cseq(alloc)?;
     Ok(Head {
-        via: List::new(alloc),
+        via: SharedList::new(alloc),
         route: List::new(alloc),
         record_route: SharedList::new(alloc),
         from,

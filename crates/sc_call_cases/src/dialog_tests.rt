@@ -149,7 +149,7 @@ fn head(
     let call_id = call_id(alloc)?;
     let cseq = cseq(alloc, number)?;
     Ok(Head {
-        via: List::new(alloc),
+        via: SharedList::new(alloc),
         route: List::new(alloc),
         record_route,
         from,

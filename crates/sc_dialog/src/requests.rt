@@ -178,7 +178,7 @@ fn head_of(
         } }
 {
     Head {
-        via: List::new(alloc),
+        via: SharedList::new(alloc),
         route,
         record_route: SharedList::new(alloc),
         from: names.from,

@@ -101,7 +101,7 @@ fn head_of(
     requires method { is_token method.now ≡ true }
     ensures { IfOk result (λ h. h ≡ head_of i letter.now method.now number to route contact) }
 {
-    let via = vias(alloc, i, letter)?;
+    let via = SharedList::from_list(alloc, vias(alloc, i, letter)?)?;
     let from = Shared::new(alloc, from_side(alloc)?)?;
     let to = Shared::new(alloc, to)?;
     let contact = SharedList::from_list(alloc, contact)?;

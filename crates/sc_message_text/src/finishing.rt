@@ -163,10 +163,11 @@ fn head_of(alloc: Global, lists: Lists, peers: Peers, body: Text) -> Result<Head
     ensures { IfOk result (λ head. head ≡ head_of lists peers body) }
 {
     let ((from, to), (call_id, cseq)) = peers;
+    let via = SharedList::from_list(alloc, lists.via)?;
     let record_route = SharedList::from_list(alloc, lists.record_route)?;
     let contact = SharedList::from_list(alloc, lists.contact)?;
     Ok(Head {
-        via: lists.via,
+        via,
         route: lists.route,
         record_route,
         from,

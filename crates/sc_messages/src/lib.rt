@@ -7,6 +7,7 @@ mod parts;
 mod requests;
 mod responses;
 mod sides;
+mod vias;
 
 pub use own::own_address;
 pub use requests::{

@@ -28,7 +28,7 @@ pub struct Content {
 /// The head of these parts, without Record-Route.
 pub fn head_of(
     alloc: Global,
-    via: List<Via>,
+    via: SharedList<Via>,
     route: List<Address>,
     names: Names,
     content: Content,
@@ -107,7 +107,7 @@ pub fn cseq(alloc: Global, number: u32, method: &Token) -> Result<CSeq, NoMemory
 }
 
 /// Puts these Vias in place of a request's own.
-pub fn set_via(request: &mut Request, via: List<Via>)
+pub fn set_via(request: &mut Request, via: SharedList<Via>)
     ensures { request.new ≡ record request.old { head = record request.old.head { via = via } } }
 {
     request.head.via = via;
@@ -151,4 +151,12 @@ pub fn set_response_routes(response: &mut Response, routes: SharedList<Address>)
         ≡ record response.old { head = record response.old.head { record_route = routes } } }
 {
     response.head.record_route = routes;
+}
+
+/// Puts these Vias in place of a response's own.
+pub fn set_response_via(response: &mut Response, via: SharedList<Via>)
+    ensures { response.new
+        ≡ record response.old { head = record response.old.head { via = via } } }
+{
+    response.head.via = via;
 }

@@ -1,6 +1,6 @@
 //! Requests: the own ones, those that are passed on, CANCEL and ACK.
 
-ghost use Rattle.std.specs.Prelude.{◌≡◌, ◌++◌, ◌∷◌, [], option_map, unwrap_or, slice_get, map, if◌then◌else◌, IfOk, OnOk};
+ghost use Rattle.std.specs.Prelude.{◌≡◌, ◌∷◌, [], unwrap_or, map, if◌then◌else◌, IfOk};
 ghost use Rattle.sc_model.specs.Dialogs.{sets_target};
 ghost use Rattle.sc_model.specs.Responses.{kept_field};
 ghost use Rattle.sc_hosts.specs.Messages.{ack_of, asked_request, begins_dialog, cancel_of, from_here, kin, leg_request, on_branch, own_address, passed_request, proxied_request};
@@ -11,11 +11,12 @@ use crate::parts::{
     Content, Names, cseq, head_of, no_content, set_contact, set_record_route, set_uri, set_via,
 };
 use crate::sides::{tagged, untagged};
+use crate::vias::{behind, top_via};
 use sc_dialog::{asked_method, kept_fields};
 use sc_terms::{Ask, Config, View};
 use sc_value::{
     Address, AppId, CloneIn, Contact, Head, HeaderValue, List, NoMemory, Request, Response, Shared,
-    SharedList, Text, Token, Uri, Via,
+    SharedList, Text, Token, Uri,
 };
 use std::alloc::Global;
 
@@ -35,27 +36,6 @@ pub fn on_branch(
     let mut copy = request.clone_in(alloc)?;
     set_via(&mut copy, via);
     Ok(copy)
-}
-
-// The Vias with this one on top.
-fn behind(alloc: Global, top: Via, vias: &[Via]) -> Result<List<Via>, NoMemory>
-    ensures { IfOk result (λ l. l ≡ top ∷ vias.now) }
-{
-    let mut all = List {
-        items: Vec::with_capacity(alloc, vias.len().saturating_add(1))?,
-    };
-    all.push(top)?;
-    add_copies(alloc, vias, &mut all)?;
-    Ok(all)
-}
-
-fn add_copies(alloc: Global, vias: &[Via], all: &mut List<Via>) -> Result<(), NoMemory>
-    ensures { OnOk result (all.new ≡ all.old ++ vias.now) }
-{
-    for via in vias {
-        all.push(via.clone_in(alloc)?)?;
-    }
-    Ok(())
 }
 
 /// A request that an application makes, with the own Contact where it sets the target of a dialog.
@@ -131,7 +111,13 @@ pub fn asked_request(
         method,
         uri,
         hops: 70,
-        head: head_of(alloc, List::new(alloc), List::new(alloc), names, content),
+        head: head_of(
+            alloc,
+            SharedList::new(alloc),
+            List::new(alloc),
+            names,
+            content,
+        ),
     })
 }
 
@@ -207,7 +193,7 @@ pub fn leg_request(
         method,
         uri,
         hops: request.hops.saturating_sub(1),
-        head: head_of(alloc, List::new(alloc), route, names, content),
+        head: head_of(alloc, SharedList::new(alloc), route, names, content),
     })
 }
 
@@ -386,18 +372,4 @@ fn kin_names(
         call_id,
         cseq,
     })
-}
-
-fn top_via(alloc: Global, vias: &[Via]) -> Result<List<Via>, NoMemory>
-    ensures { IfOk result
-        (λ l. l ≡ unwrap_or (option_map (λ via. via ∷ []) (slice_get vias.now 0)) []) }
-{
-    let mut top = List::new(alloc);
-    match vias.first() {
-        Some(via) => {
-            top.push(via.clone_in(alloc)?)?;
-            Ok(top)
-        }
-        None => Ok(top),
-    }
 }

@@ -1,20 +1,22 @@
 //! Responses: those that an application gives and the container's own (RFC 3261 section 8.2.6).
 
-ghost use Rattle.std.specs.Prelude.{◌≡◌, drop, map, IfOk, OnOk};
+ghost use Rattle.std.specs.Prelude.{◌≡◌, map, IfOk, OnOk};
 ghost use Rattle.sc_model.specs.Names.{edge_tag};
 ghost use Rattle.sc_model.specs.Responses.{kept_field, response_head, response_to, with_tag};
 ghost use Rattle.sc_hosts.specs.Messages.{answered_here, bad_response, bare_answer, given_response, makes_dialog, own_response, trying_response, with_routes, without_via};
 
 use crate::parts::{
     Content, Names, head_of, names_of, no_content, set_response_contact, set_response_routes,
+    set_response_via,
 };
 use crate::requests::{begins_dialog, own_contact, sets_target};
 use crate::sides::with_tag;
+use crate::vias::below;
 use sc_dialog::kept_fields;
 use sc_terms::{Answer, Config, View};
 use sc_value::{
     Answerable, CloneIn, Discard, Head, List, NoMemory, Reason, Request, Response, Shared,
-    SharedList, Text, Via, is_one_line,
+    SharedList, Text, is_one_line,
 };
 use std::alloc::Global;
 
@@ -245,7 +247,7 @@ pub fn bad_response(alloc: Global, salt: &Text, heads: &Answerable) -> Result<Re
     ensures { IfOk result (λ r. r ≡ bad_response salt.now heads.now) }
 {
     let reason = Reason::from_slice(alloc, b"Bad Request")?;
-    let via = heads.via.clone_in(alloc)?;
+    let via = SharedList::from_list(alloc, heads.via.clone_in(alloc)?)?;
     let names = bad_names(alloc, salt, heads)?;
     let content = no_content(alloc);
     Ok(Response {
@@ -285,15 +287,8 @@ fn bad_names(alloc: Global, salt: &Text, heads: &Answerable) -> Result<Names, No
 pub fn without_via(alloc: Global, response: &Response) -> Result<Response, NoMemory>
     ensures { IfOk result (λ r. r ≡ without_via response.now) }
 {
+    let via = below(alloc, response.head.via.as_slice())?;
     let mut copy = response.clone_in(alloc)?;
-    drop_top(&mut copy.head.via);
+    set_response_via(&mut copy, via);
     Ok(copy)
-}
-
-fn drop_top(vias: &mut List<Via>)
-    ensures { vias.new ≡ drop 1 vias.old }
-{
-    if !vias.is_empty() {
-        vias.items.remove(0);
-    }
 }

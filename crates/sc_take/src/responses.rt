@@ -40,13 +40,12 @@ fn share_head(alloc: Global, own: &Head, head: &mut Head)
     share(alloc, &own.record_route, &mut head.record_route);
 }
 
-// The response as its session gets it: without the own Via, whose room goes too. One from outside
-// was read anew; one of another host has the owners of its request already.
+// The response as its session gets it: without the own Via. One from outside was read anew; one of
+// another host has the owners of its request already.
 fn told_response(alloc: Global, client: &Client, response: &Response) -> Result<Response, NoMemory>
     ensures { IfOk result (λ r. r ≡ without_via response.now) }
 {
     let mut copy = without_via(alloc, response)?;
-    copy.head.via.items.shrink_to_fit();
     match client.peer {
         Peer::Outside(_) => share_head(alloc, &client.request.get().head, &mut copy.head),
         Peer::Inside(_) | Peer::Nowhere => {}

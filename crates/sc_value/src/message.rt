@@ -9,7 +9,7 @@ use crate::{
 /// is the length of the body. What most copies keep may have several owners.
 #[derive(Drop)]
 pub struct Head {
-    pub via: List<Via>,
+    pub via: SharedList<Via>,
     pub route: List<Address>,
     pub record_route: SharedList<Address>,
     pub from: Shared<Address>,

@@ -11,7 +11,7 @@ use std::alloc::Global;
 /// What routes a message.
 #[derive(Drop)]
 struct Routing {
-    via: List<Via>,
+    via: SharedList<Via>,
     route: List<Address>,
     record_route: SharedList<Address>,
 }
