@@ -10,6 +10,7 @@ use Rattle.sc_terms.specs.Ranges.{is_expiry}
 use Rattle.sc_tokens.specs.Hosts.{is_host}
 use Rattle.sc_tokens.specs.Bytes.{Bytes}
 use Rattle.sc_config.specs.Documents.{elements}
+use Rattle.sc_tokens.specs.Signs.{carriage_return, colon, line_feed, quote, zero_digit}
 
 -- ## Texts
 
@@ -25,7 +26,7 @@ is_salt text =
 
 -- the byte would end a quoted text or its line
 unfoldable pub is_quote_or_break : ℕ → Bool
-is_quote_or_break b = b == 34 || b == 13 || b == 10
+is_quote_or_break b = b == quote || b == carriage_return || b == line_feed
 
 -- an application's name: not empty, without quote, CR or LF
 unfoldable pub is_app_name : Bytes → Bool
@@ -47,7 +48,8 @@ ip_of text = if_whole (read_ipv4 text)
 -- the port that the text writes: a decimal from 1 to 65,535 without leading zeros
 unfoldable pub port_of : Bytes → Option ℕ
 port_of text =
-    if list_all is_ascii_digit text && nat_lt 0 (length text) && not (slice_index text 0 == 48)
+    if list_all is_ascii_digit text && nat_lt 0 (length text)
+    && not (slice_index text 0 == zero_digit)
     && nat_le 1 (digits_value 10 text) && nat_lt (digits_value 10 text) 65536
     then Some (digits_value 10 text) else None
 
@@ -59,7 +61,7 @@ both (Some a) (Some b) = Some (a, b)
 
 -- the byte is the colon before a port
 abbrev pub is_colon : ℕ → Bool
-is_colon b = b == 58
+is_colon b = b == colon
 
 -- the address and the port that the text writes, with the first colon between them; no port is
 -- empty, so the colon is there

@@ -15,18 +15,19 @@ use Rattle.sc_console.specs.declared.asked.Asked.{Asked}
 use Rattle.sc_console.specs.declared.asked.Asked.TheVariants as asks
 use Rattle.sc_console.specs.declared.answer.Console.{Console}
 use Rattle.sc_console.specs.declared.answer.Console.TheVariants as consoles
+use Rattle.sc_tokens.specs.Signs.{line_feed}
 
 -- the answer where a withdrawal was ordered
 abbrev pub posted_text : Bytes
-posted_text = codes "posted" ++ 10 ∷ []
+posted_text = codes "posted" ++ line_feed ∷ []
 
 -- the answer where the desk is full
 abbrev pub full_text : Bytes
-full_text = codes "full" ++ 10 ∷ []
+full_text = codes "full" ++ line_feed ∷ []
 
 -- the answer to a line that asks for nothing known
 abbrev pub unknown_text : Bytes
-unknown_text = codes "?" ++ 10 ∷ []
+unknown_text = codes "?" ++ line_feed ∷ []
 
 -- the reading gave this listing, which isn't before any that it gave
 abbrev pub Gave : Listing → Note → Note → Type 0

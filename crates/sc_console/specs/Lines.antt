@@ -7,6 +7,7 @@ use Rattle.sc_tokens.specs.Names.{same_bytes}
 use Rattle.sc_script.specs.ScriptTexts.{MOST_COUNT, decimal_upto}
 use Rattle.sc_console.specs.declared.asked.Asked.{Asked}
 use Rattle.sc_console.specs.declared.asked.Asked.TheVariants as asks
+use Rattle.sc_tokens.specs.Signs.{space}
 
 -- the session of this host and serial, where both are numbers of their ranges
 unfoldable pub asked_session : Option ℕ → Option ℕ → Asked
@@ -22,12 +23,12 @@ session_of host (Some serial) =
 -- `H S`
 unfoldable pub session_in : Option Bytes → Asked
 session_in None = asks.Nothing
-session_in (Some text) = session_of (before 32 text) (after 32 text)
+session_in (Some text) = session_of (before space text) (after space text)
 
 -- what a line, without its end, asks for
 unfoldable pub asked_of : Bytes → Asked
 asked_of line =
     if same_bytes line (codes "list") then asks.List
     else
-    (if same_bytes (before 32 line) (codes "drop") then session_in (after 32 line)
+    (if same_bytes (before space line) (codes "drop") then session_in (after space line)
     else asks.Nothing)

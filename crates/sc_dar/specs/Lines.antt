@@ -7,6 +7,7 @@ use Rattle.sc_tokens.specs.Tokens.{is_blank}
 use Rattle.sc_tokens.specs.Bytes.{Bytes}
 use Rattle.sc_tokens.specs.Cuts.{pieces}
 use Rattle.sc_tokens.specs.Hosts.{begins}
+use Rattle.sc_tokens.specs.Signs.{backslash, exclamation, line_feed, number_sign}
 
 -- what stands after the blanks at the front: spaces and tabs
 unfoldable pub drop_blanks : Bytes → Bytes
@@ -38,7 +39,7 @@ lines_by_lf (line ∷ next ∷ more) = without_cr line ∷ lines_by_lf (next ∷
 
 -- the rows of a text: what stands between its LFs, without a CR at an end
 unfoldable pub rows : Bytes → List Bytes
-rows text = lines_by_lf (pieces 10 text)
+rows text = lines_by_lf (pieces line_feed text)
 
 -- a line that may be joined from several rows of the text
 pub record Line : Type 0 where
@@ -55,7 +56,8 @@ onto_next row (next ∷ more) =
 -- the row is the front of the lines that go on after it, or a line before the fresh ones
 unfoldable pub before_lines : Bytes → List Line → List Line → List Line
 before_lines row lines_of_rows fresh =
-    if ends 92 row then onto_next row lines_of_rows else (record { text = row; height = 1 } ∷ fresh)
+    if ends backslash row then onto_next row lines_of_rows
+    else (record { text = row; height = 1 } ∷ fresh)
 
 -- the lines of these rows, of which the first may go on a row before it, and loses its blanks then
 unfoldable pub lines_of_rows : Bool → List Bytes → List Line
@@ -71,4 +73,5 @@ lines text = lines_of_rows false (rows text)
 -- the line says nothing: it is blank, or its first byte past blanks is # or !
 unfoldable pub is_comment : Bytes → Bool
 is_comment line =
-    length (drop_blanks line) == 0 || begins 35 (drop_blanks line) || begins 33 (drop_blanks line)
+    length (drop_blanks line) == 0 || begins number_sign (drop_blanks line)
+    || begins exclamation (drop_blanks line)

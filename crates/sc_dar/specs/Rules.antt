@@ -8,12 +8,13 @@ use Rattle.sc_tokens.specs.Bytes.{Bytes}
 use Rattle.sc_tokens.specs.Cuts.{has}
 use Rattle.sc_dar.specs.Tuples.{route_of}
 use Rattle.sc_dar.specs.WrittenTables.{route_text}
+use Rattle.sc_tokens.specs.Signs.{carriage_return, line_feed, quote as quote_sign}
 
 -- the text can stand between quotes: no quote, CR or LF stands in it
 pub record IsPlain (text : Bytes) : Type 0 where
-  pub quote : has 34 text ≡ false
-  pub cr : has 13 text ≡ false
-  pub lf : has 10 text ≡ false
+  pub quote : has quote_sign text ≡ false
+  pub cr : has carriage_return text ≡ false
+  pub lf : has line_feed text ≡ false
 
 -- the names of the applications: each can stand between quotes, and no two are the same
 pub record AreNames (apps : List Bytes) : Type 0 where

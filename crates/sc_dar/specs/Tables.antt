@@ -10,6 +10,7 @@ use Rattle.sc_tokens.specs.Hosts.{begins}
 use Rattle.sc_tokens.specs.Quoted.{token_end}
 use Rattle.sc_dar.specs.Lines.{Line, drop_blanks, is_comment, lines}
 use Rattle.sc_dar.specs.Tuples.{parts, then_read, tuples_in}
+use Rattle.sc_tokens.specs.Signs.{colon, equal}
 
 -- a line's number from 1, and what is wrong with it
 pub record Fault : Type 0 where
@@ -40,7 +41,7 @@ behind_method line = drop_blanks (drop (token_end 0 line) line)
 unfoldable pub has_separator : Bytes → Bool
 has_separator line =
     not (token_end 0 line == 0)
-    && (begins 58 (behind_method line) || begins 61 (behind_method line))
+    && (begins colon (behind_method line) || begins equal (behind_method line))
 
 -- the list of a line that is no comment
 unfoldable pub list_in : List Bytes → List MethodList → Bytes → Result MethodList ℕ

@@ -17,6 +17,7 @@ use Rattle.sc_tokens.specs.Hosts.{begins}
 use Rattle.sc_syntax.specs.UriParts.{Fault as UriFault}
 use Rattle.sc_syntax.specs.Uris.{uri_of}
 use Rattle.sc_dar.specs.Lines.{drop_blanks, is_blank_text}
+use Rattle.sc_tokens.specs.Signs.{carriage_return, comma, left_angle, quote, right_angle, right_parenthesis}
 
 -- ## Kinds of refusals
 
@@ -73,8 +74,8 @@ pub record TupleTexts : Type 0 where
 unfoldable pub parts : Bool → Bytes → List Bytes
 parts text_in_quotes [] = [] ∷ []
 parts text_in_quotes (b ∷ bs) =
-    if b == 44 && not text_in_quotes then [] ∷ parts false bs
-    else onto_first b (parts (if b == 34 then not text_in_quotes else text_in_quotes) bs)
+    if b == comma && not text_in_quotes then [] ∷ parts false bs
+    else onto_first b (parts (if b == quote then not text_in_quotes else text_in_quotes) bs)
 
 -- the parts behind a comma, none where there is none
 unfoldable pub parts_after : Option Bytes → List Bytes
@@ -105,22 +106,25 @@ behind sign text = if begins sign (drop_blanks text) then Some (drop 1 (drop_bla
 -- it
 unfoldable pub before_quote : (Bytes → Bool) → Bytes → Option Bytes
 before_quote is_end text =
-    if option_map_or is_end (after 34 text) false && not (has 13 (before 34 text))
-    then Some (before 34 text)
+    if option_map_or is_end (after quote text) false
+    && not (has carriage_return (before quote text))
+    then Some (before quote text)
     else None
 
 -- the text in quotes, blanks before it, and such an end behind it
 unfoldable pub text_in_quotes : (Bytes → Bool) → Bytes → Option Bytes
-text_in_quotes is_end text = option_and_then (before_quote is_end) (behind 34 text)
+text_in_quotes is_end text = option_and_then (before_quote is_end) (behind quote text)
 
 -- the bracket closes
 unfoldable pub is_closing : Bytes → Bool
-is_closing text = is_some (behind 41 text)
+is_closing text = is_some (behind right_parenthesis text)
 
 -- what stands behind the tuple's bracket, up to the next comma or the end; the order is its last
 -- text
 unfoldable pub behind_tuple : Bytes → Option Bytes
-behind_tuple order = option_and_then (behind 41) (option_and_then (after 34) (behind 34 order))
+behind_tuple order =
+    option_and_then (behind right_parenthesis)
+    (option_and_then (after quote) (behind quote order))
 
 -- blanks alone stand there
 unfoldable pub is_parted : Bytes → Bool
@@ -197,10 +201,10 @@ sip_route (Err fault) = None
 -- what stands between angle brackets, or else the whole text
 unfoldable pub without_brackets : Bytes → Option Bytes
 without_brackets text =
-    if begins 60 text
+    if begins left_angle text
     then option_and_then
-    (λ rest. if length rest == 0 then Some (before 62 (drop 1 text)) else None)
-    (after 62 (drop 1 text))
+    (λ rest. if length rest == 0 then Some (before right_angle (drop 1 text)) else None)
+    (after right_angle (drop 1 text))
     else Some text
 
 -- no route for an empty text, else a `sip:` URI, bare or in angle brackets (RFC 3261 section 20.34)

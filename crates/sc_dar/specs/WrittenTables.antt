@@ -11,6 +11,7 @@ use Rattle.sc_terms.specs.declared.settings.Modifier.TheVariants.{Route, RouteBa
 use Rattle.sc_terms.specs.declared.settings.Tuple.{Tuple}
 use Rattle.sc_grammar.specs.Written.{uri_text}
 use Rattle.sc_tokens.specs.Bytes.{Bytes}
+use Rattle.sc_tokens.specs.Signs.{line_feed}
 
 -- the name of a region
 unfoldable pub region_text : Region → Bytes
@@ -64,7 +65,8 @@ tuples_text apps order (tuple ∷ more) =
 
 -- `METHOD: tuples` and LF
 unfoldable pub list_text : List Bytes → MethodList → Bytes
-list_text apps list = list.method ++ codes ": " ++ tuples_text apps 0 list.tuples ++ 10 ∷ []
+list_text apps list =
+    list.method ++ codes ": " ++ tuples_text apps 0 list.tuples ++ line_feed ∷ []
 
 -- the whole table as text
 unfoldable pub dar_text : Dar → List Bytes → Bytes

@@ -120,7 +120,7 @@ leg_made req before (answers.Refused refused) = leg_failed req (answers.Refused 
 -- `r` and the number of a request that was sent: the attribute that names the request which it
 -- serves
 unfoldable pub served_name : ℕ → Bytes
-served_name n = 114 ∷ decimal n
+served_name n = codes "r" ++ decimal n
 
 -- a request of the peer, sent on in the dialog of the other leg
 unfoldable pub sent_on : ReqId → Request → SessId → Script

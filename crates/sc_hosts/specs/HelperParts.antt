@@ -17,6 +17,7 @@ use Rattle.sc_tokens.specs.Cuts.{pieces}
 use Rattle.sc_tokens.specs.Numbers.{number_of}
 use Rattle.sc_hosts.specs.Scripting.{Done, Make, Script, attribute, is_refused, only, where_some, with_number}
 use Rattle.sc_hosts.specs.Looking.{timer_in}
+use Rattle.sc_tokens.specs.Signs.{comma, space, tab}
 
 -- ## Texts
 
@@ -39,12 +40,13 @@ field_of name request =
 
 -- the items between commas
 unfoldable pub items_of : Bytes → List Bytes
-items_of value = map without_blanks (pieces 44 value)
+items_of value = map without_blanks (pieces comma value)
 
 -- the words between blanks
 unfoldable pub words_of : Bytes → List Bytes
 words_of value =
-    filter (λ word. not (length word == 0)) (pieces 32 (map (λ b. if b == 9 then 32 else b) value))
+    filter (λ word. not (length word == 0))
+    (pieces space (map (λ b. if b == tab then space else b) value))
 
 -- the header of what a sender supports (RFC 3261 section 20.37)
 unfoldable pub supported_word : Bytes

@@ -25,6 +25,7 @@ use Rattle.sc_hosts.specs.Looking.{request_in, same_session}
 use Rattle.sc_hosts.specs.Words.{prack, ok, ringing, does_not_exist}
 use Rattle.sc_hosts.specs.HelperParts.{strict_number, field_of, words_of, require_word, lists_option, answer_with, field, accepted_then, cancel_then, cancel_first_timer}
 use Rattle.sc_model.specs.BestResponses.{server_error}
+use Rattle.sc_tokens.specs.Signs.{space}
 
 -- the last offer of an INVITE: its RSeq, the INVITE's CSeq number, its timer, 0 for none
 pub record Offer : Type 0 where
@@ -53,7 +54,7 @@ offer_in words = None
 -- the offer that waits
 unfoldable pub pending_offer : View → ℕ → Option Offer
 pending_offer view n =
-    option_and_then (λ text. offer_in (pieces 32 text)) (attribute (rel_name n) view)
+    option_and_then (λ text. offer_in (pieces space text)) (attribute (rel_name n) view)
 
 -- the same written; the timer is 0 before it is started
 unfoldable pub offer_text : ℕ → ℕ → ℕ → Bytes

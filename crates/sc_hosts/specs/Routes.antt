@@ -19,6 +19,7 @@ use Rattle.sc_tokens.specs.Cuts.{before}
 use Rattle.sc_tokens.specs.Numbers.{number_below}
 use Rattle.sc_model.specs.Names.{ar_name, ar_value}
 use Rattle.sc_model.specs.OwnHosts.{is_own}
+use Rattle.sc_tokens.specs.Signs.{hyphen}
 
 -- how the router goes on for a request: the region, the directive, and the place in its list
 pub record Position : Type 0 where
@@ -55,7 +56,7 @@ ar_of (Other text) = None
 unfoldable pub named_number : Bytes → Region → Option ℕ
 named_number text region =
     option_and_then (λ n. if same_bytes (ar_value n region) text then Some n else None)
-    (number_below (2 ^ 32) (before 45 text))
+    (number_below (2 ^ 32) (before hyphen text))
 
 -- from this place in the list on
 unfoldable pub at_number : Region → ℕ → Position

@@ -27,6 +27,7 @@ use Rattle.sc_hosts.specs.Charters.{reply_ok}
 use Rattle.sc_hosts.specs.Words.{ok}
 use Rattle.sc_hosts.specs.HelperParts.{strict_number, supported_word, require_word, lists_option, answer_with, field, accepted_then, send_in, remove_then, cancel_then, session_number}
 use Rattle.sc_hosts.specs.Offers.{after_word}
+use Rattle.sc_tokens.specs.Signs.{equal, semicolon, space}
 
 -- what the called side grants: no session timer, 422, or an interval in seconds with who refreshes
 pub data Granted : Type 0 where
@@ -57,15 +58,15 @@ leading_number value = number_of (take_while is_ascii_digit value)
 
 -- the first parameter `refresher` says that the called side refreshes
 unfoldable pub is_refresher : Bytes → Bool
-is_refresher param = same_name (without_blanks (before 61 param)) (codes "refresher")
+is_refresher param = same_name (without_blanks (before equal param)) (codes "refresher")
 
 -- the value's parameter `refresher` is `uas`
 unfoldable pub refreshes_uas : Bytes → Bool
 refreshes_uas value =
     option_map_or
     (λ param.
-    option_map_or (λ v. same_name (without_blanks v) (codes "uas")) (after 61 param) false)
-    (find is_refresher (drop 1 (pieces 59 value))) false
+    option_map_or (λ v. same_name (without_blanks v) (codes "uas")) (after equal param) false)
+    (find is_refresher (drop 1 (pieces semicolon value))) false
 
 -- by the interval asked for and the least one: a caller without support gets no 422, and doesn't
 -- refresh; more than 4,000,000 s is none (RFC 4028 section 9)
@@ -138,7 +139,7 @@ timed_in words = None
 
 -- the same from its text
 unfoldable pub timed_of : Bytes → Option Timed
-timed_of text = timed_in (pieces 32 text)
+timed_of text = timed_in (pieces space text)
 
 -- the session timer ends: its servlet timer is cancelled, its attribute removed; then the script
 -- goes on

@@ -27,6 +27,7 @@ use Rattle.sc_hosts.specs.Words.{ok}
 use Rattle.sc_hosts.specs.HelperParts.{strict_number, field_of, answer_with, field, accepted_then, send_in, remove_then, cancel_then, session_number}
 use Rattle.sc_hosts.specs.Offers.{after_word}
 use Rattle.sc_model.specs.BestResponses.{server_error}
+use Rattle.sc_tokens.specs.Signs.{semicolon, space}
 
 -- a package, with the least and the longest time of a subscription in seconds, and the state's body
 pub record Rule : Type 0 where
@@ -65,7 +66,8 @@ event_value request = option_map (λ field. field.value) (find is_event request.
 -- the request is for the rule's package, whatever the parameters behind it
 unfoldable pub names_package : Rule → Request → Bool
 names_package rule request =
-    option_map_or (λ value. same_bytes (without_blanks (before 59 value)) rule.event_package)
+    option_map_or
+    (λ value. same_bytes (without_blanks (before semicolon value)) rule.event_package)
     (event_value request) false
 
 -- for how many seconds a subscription is asked
@@ -107,7 +109,7 @@ ev_name sess = codes "ev" ++ decimal sess.0
 -- the subscription of a SipSession, if there is one
 unfoldable pub subscription_of : View → SessId → Option Subscription
 subscription_of view sess =
-    option_and_then (λ text. subscription_in (pieces 32 text)) (attribute (sub_name sess) view)
+    option_and_then (λ text. subscription_in (pieces space text)) (attribute (sub_name sess) view)
 
 -- the letter of an active subscription, and that of a pending one
 unfoldable pub letter_word : Bool → Bytes
@@ -213,7 +215,7 @@ named_sub id field =
     (λ sess.
     option_and_then
     (λ sub. if sub.timer == id.0 then Some (record { sess = sess; sub = sub }) else None)
-    (subscription_in (pieces 32 field.value)))
+    (subscription_in (pieces space field.value)))
     (option_and_then session_number (after_word (codes "sub") field.name))
 
 -- the time of a subscription is over: a NOTIFY says so

@@ -22,6 +22,7 @@ use Rattle.sc_hosts.specs.Looking.{request_in}
 use Rattle.sc_hosts.specs.Offers.{Offer, rel_name, rel_option, offer_text, prack_by, pending_offer, late_offer, names_offer}
 use Rattle.sc_hosts.specs.Scripting.{Done, Make, Script, attribute, is_refused, only, reply, with_number}
 use Rattle.sc_hosts.specs.Words.{ok}
+use Rattle.sc_tokens.specs.Signs.{space}
 
 -- ## What is remembered
 
@@ -58,7 +59,7 @@ remembered_in words = Fresh
 -- by the attribute's text
 unfoldable pub remembered_of : Option Bytes → Remembered
 remembered_of None = Fresh
-remembered_of (Some text) = remembered_in (pieces 32 text)
+remembered_of (Some text) = remembered_in (pieces space text)
 
 -- what a view remembers of the INVITE of this number
 abbrev pub remembered_at : View → ℕ → Remembered

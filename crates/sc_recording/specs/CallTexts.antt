@@ -27,6 +27,7 @@ use Rattle.sc_terms.specs.declared.calls.CallAnswer.TheVariants as answers
 use Rattle.sc_terms.specs.declared.calls.CallRecord.{CallRecord}
 use Rattle.sc_tokens.specs.Bytes.{Bytes}
 use Rattle.sc_grammar.specs.Written.{address_text, contact_text, uri_text}
+use Rattle.sc_tokens.specs.Signs.{line_feed, space}
 
 -- ## Longer words
 
@@ -66,7 +67,7 @@ wrong_state_word = codes "wrong_state"
 
 -- a number
 unfoldable pub decimal_text : ℕ → Bytes
-decimal_text n = 32 ∷ decimal n
+decimal_text n = space ∷ decimal n
 
 -- a number that may be missing
 unfoldable pub numbered_or : Option ℕ → Bytes
@@ -249,7 +250,7 @@ answer_text (answers.Refused refusal) = codes " = refused " ++ refusal_text refu
 
 -- the line of a call
 unfoldable pub call_line : CallRecord → Bytes
-call_line made = call_text made.call ++ answer_text made.answer ++ 10 ∷ []
+call_line made = call_text made.call ++ answer_text made.answer ++ line_feed ∷ []
 
 -- the lines of all calls of a turn, in their order
 unfoldable pub calls_text : List CallRecord → Bytes

@@ -15,10 +15,11 @@ use Rattle.sc_tokens.specs.Bytes.{Bytes}
 use Rattle.sc_grammar.specs.Written.{address_text, cseq_text, line, text_of_message, via_line}
 use Rattle.sc_model.specs.Records.{place_text}
 use Rattle.sc_recording.specs.CallTexts.{calls_text, decimal_text}
+use Rattle.sc_tokens.specs.Signs.{line_feed}
 
 -- how many bytes follow, the end of the line, these bytes, and one line feed
 unfoldable pub followed_by : Bytes → Bytes
-followed_by text = decimal_text (length text) ++ 10 ∷ [] ++ text ++ 10 ∷ []
+followed_by text = decimal_text (length text) ++ line_feed ∷ [] ++ text ++ line_feed ∷ []
 
 -- From, To, Call-ID and CSeq, of which an answer is made (RFC 3261 section 8.2.6.2)
 unfoldable pub peers_text : AnswerableValue → Bytes
@@ -60,11 +61,11 @@ unfoldable pub step_text : Step → Bytes
 step_text (steps.In place message) =
     codes "in " ++ place_text place ++ followed_by (text_of_message message)
 step_text (steps.Bad place bad) = bad_text place bad ++ followed_by (heads_or bad.heads)
-step_text (steps.Lost place) = codes "lost " ++ place_text place ++ 10 ∷ []
-step_text (steps.Tick now) = codes "tick" ++ decimal_text now ++ 10 ∷ []
+step_text (steps.Lost place) = codes "lost " ++ place_text place ++ line_feed ∷ []
+step_text (steps.Tick now) = codes "tick" ++ decimal_text now ++ line_feed ∷ []
 step_text (steps.Turn end app event now calls) =
     turn_text app event now end ++ followed_by (calls_text calls)
-step_text (steps.Withdraw app) = codes "drop" ++ app_text app ++ 10 ∷ []
+step_text (steps.Withdraw app) = codes "drop" ++ app_text app ++ line_feed ∷ []
 
 -- steps, one after the other
 unfoldable pub steps_text : List Step → Bytes
@@ -72,4 +73,5 @@ steps_text journal = flat_map step_text journal
 
 -- the epoch of this number, which began at this moment, ends here
 unfoldable pub epoch_text : ℕ → ℕ → Bytes
-epoch_text number began = codes "epoch" ++ decimal_text number ++ decimal_text began ++ 10 ∷ []
+epoch_text number began =
+    codes "epoch" ++ decimal_text number ++ decimal_text began ++ line_feed ∷ []

@@ -12,6 +12,7 @@ use Rattle.sc_switch.specs.declared.ran.Status.TheVariants as statuses
 use Rattle.sc_replay.specs.Replaying.{TellsConfig, TellsTable, IsUnset, app_names}
 use Rattle.sc_replay.specs.Putting.{IsPut}
 use Rattle.sc_replay.specs.Commands.{settled_names}
+use Rattle.sc_tokens.specs.Signs.{line_feed}
 
 -- CONFIG and DAR of `check CONFIG DAR`, none of other words
 abbrev pub checked_names : List Bytes → Option (Bytes × Bytes)
@@ -27,7 +28,7 @@ ok_word = codes "ok "
 
 -- `ok A T` and LF: the applications, and the tuples
 unfoldable pub ok_line : ℕ → ℕ → Bytes
-ok_line apps tuples = ok_word ++ decimal apps ++ codes " " ++ decimal tuples ++ 10 ∷ []
+ok_line apps tuples = ok_word ++ decimal apps ++ codes " " ++ decimal tuples ++ line_feed ∷ []
 
 -- ## How it ends
 

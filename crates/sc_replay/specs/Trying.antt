@@ -14,6 +14,7 @@ use Rattle.sc_switch.specs.declared.ran.Status.{Status}
 use Rattle.sc_switch.specs.declared.ran.Status.TheVariants as statuses
 use Rattle.sc_replay.specs.Commands.{count_after_name}
 use Rattle.sc_replay.specs.Replaying.{Told, TellsSetup, IsUnset, Replays, ReplaysPart, ReplaysFull}
+use Rattle.sc_tokens.specs.Signs.{line_feed}
 
 -- the N of `trial N`, none of other words
 abbrev pub tried_count : List Bytes → Option ℕ
@@ -61,7 +62,7 @@ live_word = codes " live "
 unfoldable pub trial_text : ℕ → ℕ → ℕ → ℕ → Bytes
 trial_text n steps sent live =
     counted_text trial_word n ++ counted_text steps_word steps ++ counted_text sent_word sent
-    ++ counted_text live_word live ++ 10 ∷ []
+    ++ counted_text live_word live ++ line_feed ∷ []
 
 -- the steps of the journal, all that it sends, and the sessions that live after it
 unfoldable pub trial_line : Setup → ℕ → List Step → Bytes

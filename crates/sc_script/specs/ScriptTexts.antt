@@ -11,6 +11,7 @@ use Rattle.sc_tokens.specs.Cuts.{before, after, pieces}
 use Rattle.sc_tokens.specs.Hosts.{begins}
 use Rattle.sc_tokens.specs.Numbers.{is_digits, number_in}
 use Rattle.sc_tokens.specs.Bytes.{Bytes}
+use Rattle.sc_tokens.specs.Signs.{colon, dot, line_feed, space, zero_digit}
 
 -- where a text goes wrong, in bytes from its front, and how
 pub record Fault : Type 0 where
@@ -49,7 +50,7 @@ LONG = 7
 
 -- the text is one digit, or doesn't begin with 0
 unfoldable pub is_plain : Bytes → Bool
-is_plain text = length text == 1 || not (begins 48 text)
+is_plain text = length text == 1 || not (begins zero_digit text)
 
 -- the number of a decimal without leading zero, at most so great
 unfoldable pub decimal_upto : ℕ → Bytes → Option ℕ
@@ -84,14 +85,14 @@ address_of ip port = None
 
 -- `a.b.c.d:port`, from its pieces
 unfoldable pub address_in : List Bytes → Option Place
-address_in (ip ∷ port ∷ []) = address_of (ip_of (pieces 46 ip)) (decimal_upto 65535 port)
+address_in (ip ∷ port ∷ []) = address_of (ip_of (pieces dot ip)) (decimal_upto 65535 port)
 address_in texts = None
 
 -- the place that a word names: a peer's connection, or an address
 unfoldable pub place_of : Bytes → Option Place
 place_of [] = None
 place_of (b ∷ bs) =
-    if b == 99 then connection_of (decimal_upto MOST_COUNT bs) else address_in (pieces 58 (b ∷ bs))
+    if b == 99 then connection_of (decimal_upto MOST_COUNT bs) else address_in (pieces colon (b ∷ bs))
 
 -- ## The rows
 
@@ -145,7 +146,7 @@ three_words word host serial =
 -- the byte is there and is a line feed
 unfoldable pub is_feed : Option ℕ → Bool
 is_feed None = false
-is_feed (Some b) = b == 10
+is_feed (Some b) = b == line_feed
 
 -- the bytes that come from a place, so many of what stands after the line, with a line feed behind
 -- them; and how far that goes
@@ -195,11 +196,11 @@ row_with at len after (Ok (line, more)) =
 unfoldable pub row_by : ℕ → ℕ → Bytes → Option Bytes → Result (Line × ℕ) Fault
 row_by at since text None = Err (record { at = at + length text; kind = NO_END })
 row_by at since text (Some after) =
-    row_with at (length text + 1) after (line_of since after (pieces 32 text))
+    row_with at (length text + 1) after (line_of since after (pieces space text))
 
 -- the line that begins at this place, and how many bytes it has with its own bytes
 unfoldable pub row_at : ℕ → ℕ → Bytes → Result (Line × ℕ) Fault
-row_at at since text = row_by at since (before 10 text) (after 10 text)
+row_at at since text = row_by at since (before line_feed text) (after line_feed text)
 
 -- the moment of the last `tick`
 unfoldable pub moment_after : ℕ → Line → ℕ

@@ -17,7 +17,7 @@ use Rattle.sc_tokens.specs.Hosts.{begins, is_none_left}
 use Rattle.sc_tokens.specs.Quoted.{quoted_end}
 use Rattle.sc_syntax.specs.Uris.{uri_of}
 use Rattle.sc_tokens.specs.Blanks.{without_blanks}
-use Rattle.sc_tokens.specs.Signs.{left_angle, right_angle}
+use Rattle.sc_tokens.specs.Signs.{left_angle, quote, right_angle}
 use Rattle.sc_syntax.specs.Scanning.{address_items, address_parts, all_read}
 use Rattle.sc_syntax.specs.Parameters.{params_of}
 
@@ -32,7 +32,7 @@ uri_in_brackets text =
 
 -- a URI in its brackets
 unfoldable pub in_brackets : Bytes → Option Bytes
-in_brackets text = if begins 60 text then uri_in_brackets (drop 1 text) else None
+in_brackets text = if begins left_angle text then uri_in_brackets (drop 1 text) else None
 
 -- a quoted string of so many bytes, and a URI in its brackets
 unfoldable pub quoted_named : Bytes → ℕ → Option Named
@@ -54,7 +54,7 @@ token_named display rest =
 -- bare URI
 unfoldable pub named_in : Bytes → Option Named
 named_in text =
-    if begins 34 text
+    if begins quote text
     then option_and_then (quoted_named text) (quoted_end 0 text)
     else option_map_or (token_named (without_blanks (before left_angle text)))
     (after left_angle text)

@@ -9,10 +9,11 @@ use Rattle.sc_syntax.specs.declared.ending.Ending.TheVariants.{Any, Unfolded, Em
 use Rattle.sc_tokens.specs.Bytes.{Bytes}
 use Rattle.sc_tokens.specs.Cuts.{onto_first}
 use Rattle.sc_tokens.specs.Hosts.{begins}
+use Rattle.sc_tokens.specs.Signs.{carriage_return, line_feed}
 
 -- CR LF stands at the front
 unfoldable pub begins_break : Bytes → Bool
-begins_break text = begins 13 text && begins 10 (drop 1 text)
+begins_break text = begins carriage_return text && begins line_feed (drop 1 text)
 
 -- such an end stands at the front
 unfoldable pub is_end : Ending → Bytes → Bool

@@ -8,6 +8,7 @@ use Rattle.sc_syntax.specs.declared.scan.Scan.{Scan}
 use Rattle.sc_syntax.specs.declared.scan.Scan.TheVariants.{Front, Word, Display, DisplayEscaped, Bracketed, Params, Quoted, Escaped}
 use Rattle.sc_tokens.specs.Bytes.{Bytes}
 use Rattle.sc_tokens.specs.Cuts.{onto_first}
+use Rattle.sc_tokens.specs.Signs.{backslash, left_angle, quote, right_angle, semicolon}
 
 -- a separator parts here
 unfoldable pub is_outside : Scan → Bool
@@ -23,24 +24,25 @@ is_outside Escaped = false
 -- an address's front ends at a quote, a bracket, or any byte but a blank
 unfoldable pub past_front : ℕ → Scan
 past_front b =
-    if b == 34 then Display else if b == 60 then Bracketed else if is_blank b then Front else Word
+    if b == quote then Display else if b == left_angle then Bracketed else if is_blank b then Front
+    else Word
 
 -- the URI's brackets begin, or the parameters
 unfoldable pub past_word : ℕ → Scan
-past_word b = if b == 60 then Bracketed else if b == 59 then Params else Word
+past_word b = if b == left_angle then Bracketed else if b == semicolon then Params else Word
 
 -- in a string: a backslash takes the next byte with it, a quote closes
 unfoldable pub in_string : Scan → Scan → Scan → ℕ → Scan
 in_string inside slashed outside b =
-    if b == 92 then slashed else if b == 34 then outside else inside
+    if b == backslash then slashed else if b == quote then outside else inside
 
 -- the URI's brackets end
 unfoldable pub past_bracketed : ℕ → Scan
-past_bracketed b = if b == 62 then Params else Bracketed
+past_bracketed b = if b == right_angle then Params else Bracketed
 
 -- a quoted string begins
 unfoldable pub past_params : ℕ → Scan
-past_params b = if b == 34 then Quoted else Params
+past_params b = if b == quote then Quoted else Params
 
 -- where the scan stands behind the byte
 unfoldable pub past : Scan → ℕ → Scan

@@ -7,7 +7,7 @@ use Rattle.sc_tokens.specs.Bytes.{Bytes, is_open}
 use Rattle.sc_tokens.specs.Numbers.{port_of}
 use Rattle.sc_tokens.specs.Cuts.{before, after, pieces}
 use Rattle.sc_tokens.specs.Hosts.{begins, is_host, host_len}
-use Rattle.sc_tokens.specs.Signs.{equal, semicolon}
+use Rattle.sc_tokens.specs.Signs.{colon, equal, semicolon}
 
 -- where the first part at fault begins, and which part it is: 1 the scheme, 2 the host, 3 the
 -- port, 4 a parameter or the headers
@@ -46,7 +46,7 @@ port_in at (sign ∷ digits) =
 
 -- the host may end before this text
 unfoldable pub is_port_start : Bytes → Bool
-is_port_start text = length text == 0 || begins 58 text
+is_port_start text = length text == 0 || begins colon text
 
 -- the port behind a host, whose first byte stands at this place
 unfoldable pub sent_at : ℕ → Bytes → Result (Bytes × Option ℕ) Fault

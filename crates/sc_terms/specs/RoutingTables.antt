@@ -6,6 +6,7 @@ use Rattle.sc_tokens.specs.Hosts.{begins}
 use Rattle.sc_tokens.specs.Names.{same_bytes}
 use Rattle.sc_tokens.specs.Tokens.{is_token}
 use Rattle.sc_terms.specs.declared.settings.MethodList.{MethodList}
+use Rattle.sc_tokens.specs.Signs.{exclamation}
 
 -- a routing table as contracts see it: the tuples of each method, in the order of its lines
 pub record DarValue : Type 0 where
@@ -18,7 +19,7 @@ is_listed lists method = list_any (λ list. same_bytes list.method method) lists
 -- a method is a token that begins no comment, and has 1 to 64 tuples
 pub record IsMethodList (list : MethodList) : Type 0 where
   pub method : is_token list.method ≡ true
-  pub said : begins 33 list.method ≡ false
+  pub said : begins exclamation list.method ≡ false
   pub some : 0 < length list.tuples
   pub few : length list.tuples ≤ 64
 

@@ -7,10 +7,11 @@ use Rattle.sc_tokens.specs.Tokens.{is_blank, is_token_byte}
 use Rattle.sc_tokens.specs.Bytes.{Bytes}
 use Rattle.sc_tokens.specs.Blanks.{without_blanks}
 use Rattle.sc_tokens.specs.Quoted.{quoted_end}
+use Rattle.sc_tokens.specs.Signs.{colon, left_bracket, right_bracket}
 
 -- the byte may stand in a value outside strings: a token's, or one of an IPv6 literal in brackets
 unfoldable pub is_value_byte : ℕ → Bool
-is_value_byte b = is_token_byte b || b == 91 || b == 93 || b == 58
+is_value_byte b = is_token_byte b || b == left_bracket || b == right_bracket || b == colon
 
 -- a quoted string, and no more
 unfoldable pub is_string : Bytes → Bool

@@ -7,7 +7,7 @@ use Rattle.std.specs.Option.{option_map, option_map_or}
 use Rattle.sc_tokens.specs.Bytes.{Bytes, is_host_byte}
 use Rattle.sc_tokens.specs.Numbers.{number_below}
 use Rattle.sc_tokens.specs.Cuts.{pieces, before, after}
-use Rattle.sc_tokens.specs.Signs.{colon, dot, right_bracket}
+use Rattle.sc_tokens.specs.Signs.{colon, dot, left_bracket, right_bracket, zero_digit}
 
 -- one or more bytes of a host's name
 unfoldable pub is_host_name : Bytes → Bool
@@ -21,7 +21,8 @@ begins sign text = option_map_or (λ b. b == sign) (slice_get text 0) false
 
 -- a number up to 255 without leading zero
 unfoldable pub is_octet : Bytes → Bool
-is_octet text = is_some (number_below 256 text) && (length text == 1 || not (begins 48 text))
+is_octet text =
+    is_some (number_below 256 text) && (length text == 1 || not (begins zero_digit text))
 
 -- four of them with dots between
 unfoldable pub is_ipv4 : Bytes → Bool
@@ -56,7 +57,7 @@ groups ipv4 text = if length text == 0 then Some 0 else groups_in ipv4 (pieces c
 
 -- two colons stand at the front
 unfoldable pub begins_gap : Bytes → Bool
-begins_gap text = begins 58 text && begins 58 (drop 1 text)
+begins_gap text = begins colon text && begins colon (drop 1 text)
 
 -- the first place of two colons
 unfoldable pub gap_of : Bytes → Option ℕ
@@ -90,11 +91,12 @@ is_literal_end text = is_none_left (after right_bracket text) && is_ipv6 (before
 
 -- a name, or an IPv6 literal in its brackets
 unfoldable pub is_host : Bytes → Bool
-is_host text = if begins 91 text then is_literal_end (drop 1 text) else is_host_name text
+is_host text = if begins left_bracket text then is_literal_end (drop 1 text) else is_host_name text
 
 -- how many bytes of a host with its port are the host's: up to the closing bracket, or else the
 -- colon
 unfoldable pub host_len : Bytes → ℕ
 host_len text =
-    if begins 91 text then min (position_or_len (λ b. b == 93) text + 1) (length text)
-    else position_or_len (λ b. b == 58) text
+    if begins left_bracket text
+    then min (position_or_len (λ b. b == right_bracket) text + 1) (length text)
+    else position_or_len (λ b. b == colon) text

@@ -4,6 +4,7 @@ use Rattle.std.specs.Prelude.{ℕ, [], ◌∷◌, ◌++◌, codes, decimal}
 use Rattle.sc_tokens.specs.Bytes.{Bytes}
 use Rattle.sc_switch.specs.declared.ran.Status.{Status}
 use Rattle.sc_switch.specs.declared.ran.Status.TheVariants as statuses
+use Rattle.sc_tokens.specs.Signs.{line_feed}
 
 -- the exit status of the process
 unfoldable pub exit_status : Status → ℕ
@@ -50,4 +51,4 @@ program_word = codes "sipd: "
 -- the line, none where all was done
 unfoldable pub line_text : Status → Bytes
 line_text statuses.Done = []
-line_text status = program_word ++ cause_text status ++ 10 ∷ []
+line_text status = program_word ++ cause_text status ++ line_feed ∷ []
