@@ -3,7 +3,7 @@
 -- gave or a proxy forwarded; and what came of those in other SipSessions of their request. Lists
 -- have the newest first. An item holds what the message or the call says, and no state; in which
 -- SipSession it happened, and that a call was accepted, is by what the application session was
--- then.
+-- then. This project's own.
 use Rattle.std.specs.Prelude.{◌≡◌, ℕ, ◌==◌, List, [], ◌∷◌, ◌++◌, Bool, true, false, not, ◌&&◌, ◌||◌, Option, None, Some, is_none, is_some, option_and_then, if◌then◌else◌, map, filter}
 use Rattle.std.specs.List.{find, fold}
 use Rattle.sc_value.specs.declared.ids.ReqId.{ReqId}

@@ -1,4 +1,5 @@
 -- A turn that plays a script: what one call makes of it, and what the rest of the script makes.
+-- This project's own.
 use Rattle.std.specs.Prelude.{◌≡◌, ◌==◌, ◌++◌, ◌&&◌, not, true, false, ℕ, Option, Some, List, option_to_list, Bool, Result, Ok, Err}
 use Rattle.sc_value.specs.declared.no_memory.NoMemory.{NoMemory}
 use Rattle.sc_value.specs.declared.ids.ReqId.{ReqId}

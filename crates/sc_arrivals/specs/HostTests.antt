@@ -1,4 +1,4 @@
--- Tests of a host for what comes from outside.
+-- Tests of a host for what comes from outside. This project's own.
 use Rattle.std.specs.Prelude.{ℕ, Bool, is_some}
 use Rattle.sc_value.specs.declared.ids.Place.{Place}
 use Rattle.sc_value.specs.declared.message.Request.{Request}

@@ -1,4 +1,4 @@
--- Digits that follow a number which is read already.
+-- Digits that follow a number which is read already. Numbers are those of RFC 3261 section 25.1.
 use Rattle.std.specs.Prelude.{ℕ, Option, Some, None, ◌&&◌, ◌^◌, nat_lt, if◌then◌else◌}
 use Rattle.std.specs.List.{list_all, fold}
 use Rattle.std.specs.Char.{is_ascii_digit}

@@ -1,4 +1,4 @@
--- What a clause says of a board and its passes.
+-- What a clause says of a board and its passes. This project's own.
 use Rattle.std.specs.Prelude.{◌≡◌, ◌≤◌, ◌<◌, ◌+◌, ℕ, List, ◌++◌, Option, Some, length, map, option_map}
 use Rattle.std.specs.List.{AllByRecursion, slice_get}
 use Rattle.crossbeam_queue.specs.Passes.{view, IsPassOf, ruled_capacity}

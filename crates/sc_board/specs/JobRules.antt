@@ -1,4 +1,4 @@
--- The rule of the queue of jobs, and the steps of its passes.
+-- The rule of the queue of jobs, and the steps of its passes. This project's own.
 use Rattle.std.specs.Prelude.{◌≡◌, ◌<◌, ◌≤◌, ◌+◌, ◌-◌, ◌||◌, ℕ, Bool, true, false, cond, List, [], ◌∷◌, ◌++◌, length, max, Option, nat_eq, if◌then◌else◌}
 use Rattle.std.specs.List.{sum_by, find, AllByRecursion}
 use mathlib.Core.Option.{some}

@@ -1,4 +1,4 @@
--- The rule of the queue of results, and the steps of its passes.
+-- The rule of the queue of results, and the steps of its passes. This project's own.
 use Rattle.std.specs.Prelude.{◌≡◌, ◌<◌, ◌+◌, ◌-◌, ◌||◌, ℕ, Bool, true, false, cond, List, [], ◌∷◌, ◌++◌, length, nat_eq, if◌then◌else◌}
 use Rattle.std.specs.List.{sum_by, AllByRecursion}
 use mathlib.Core.Option.{some}

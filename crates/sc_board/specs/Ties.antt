@@ -1,4 +1,4 @@
--- What ties the two views of a pass.
+-- What ties the two views of a pass. This project's own.
 use Rattle.std.specs.Prelude.{◌≡◌, ◌<◌, ◌+◌, ℕ, List}
 use Rattle.std.specs.List.{sum_by}
 use Rattle.sc_servlets.specs.declared.lease.Lease.{Lease}

@@ -1,4 +1,4 @@
--- How many items there are, and what their weights come to.
+-- How many items there are, and what their weights come to. This project's own.
 use Rattle.std.specs.Prelude.{◌≡◌, ℕ, Option, length, sum_by}
 use Rattle.std.specs.declared.option.Option.TheVariants.{None, Some}
 use Rattle.std.specs.Map.{values_of}

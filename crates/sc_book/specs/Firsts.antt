@@ -1,4 +1,4 @@
--- The lowest number of all items, but for those that are passed over.
+-- The lowest number of all items, but for those that are passed over. This project's own.
 use Rattle.std.specs.Prelude.{◌&&◌, ℕ, Bool, false, List, [], ◌∷◌, Option}
 use Rattle.std.specs.declared.option.Option.TheVariants.{None}
 use Rattle.std.specs.Option.{option_map_or}

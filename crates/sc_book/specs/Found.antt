@@ -1,4 +1,4 @@
--- What items are found by: the numbers of each, and the indexes that have them.
+-- What items are found by: the numbers of each, and the indexes that have them. This project's own.
 use Rattle.std.specs.Prelude.{◌≡◌, ℕ, Bool, true, Option}
 use Rattle.std.specs.declared.option.Option.TheVariants.{None, Some}
 use Rattle.std.specs.Ordering.{nat_cmp}

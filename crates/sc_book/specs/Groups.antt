@@ -1,4 +1,4 @@
--- The groups of what was changed.
+-- The groups of what was changed. This project's own.
 use Rattle.std.specs.Prelude.{⊤, ◌≡◌, ◌||◌, ℕ, true, List, [], ◌∷◌, Option}
 use Rattle.std.specs.declared.option.Option.TheVariants.{None, Some}
 use Rattle.std.specs.List.Sorted.{IsStrictlySortedBy}

@@ -1,4 +1,4 @@
--- Pairs of a number and the place of an item that has it.
+-- Pairs of a number and the place of an item that has it. This project's own.
 use Rattle.std.specs.Prelude.{◌≡◌, ◌==◌, ◌||◌, ℕ, Bool, true, false, List, Option}
 use Rattle.std.specs.declared.cmp.Ordering.{Ordering}
 use Rattle.std.specs.declared.option.Option.TheVariants.{None, Some}

@@ -1,4 +1,4 @@
--- Items by their places, in the order of the places.
+-- Items by their places, in the order of the places. This project's own.
 use Rattle.std.specs.Prelude.{ℕ, List, [], ◌∷◌, Bool, false, Option, not}
 use Rattle.std.specs.declared.option.Option.TheVariants.{None, Some}
 use Rattle.std.specs.declared.sync.Arc.{Arc}

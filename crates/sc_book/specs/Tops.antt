@@ -1,4 +1,4 @@
--- A base with one change over it.
+-- A base with one change over it. This project's own.
 use Rattle.std.specs.declared.option.Option.TheVariants.{None, Some}
 use Rattle.std.specs.Prelude.{Option}
 use Rattle.std.specs.declared.alloc.Global.{Global}

@@ -1,4 +1,4 @@
--- What the contracts of rows and lines cite.
+-- What the contracts of rows and lines cite. This project's own.
 use Rattle.std.specs.Prelude.{ℕ, ◌==◌, ◌||◌, Bool, false, not, nat_lt, List, [], ◌∷◌, Option, if◌then◌else◌}
 use Rattle.std.specs.declared.option.Option.TheVariants.{None, Some}
 use Rattle.std.specs.List.{list_any}

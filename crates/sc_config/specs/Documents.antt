@@ -1,4 +1,4 @@
--- What a TOML document holds, as lists.
+-- What a TOML document holds, as lists. The form is TOML's. The form is TOML's.
 use Rattle.std.specs.Prelude.{ℕ, Bool, Option, Some, None, List, [], ◌∷◌, if◌then◌else◌, is_some}
 use Rattle.std.specs.List.{find}
 use Rattle.std.specs.Option.{option_and_then, option_map_or}

@@ -1,4 +1,4 @@
--- What is refused of a configuration, in the order in which it is looked for.
+-- What is refused of a configuration, in the order in which it is looked for. This project's own.
 use Rattle.std.specs.Prelude.{ℕ, Bool, true, not, ◌||◌, ◌&&◌, ◌++◌, Option, Some, None, List, [], ◌∷◌, map, codes, if◌then◌else◌, is_some}
 use Rattle.std.specs.List.{list_all, list_any, find}
 use Rattle.std.specs.Option.{option_and_then, option_map, option_map_or, is_none, option_or}

@@ -1,4 +1,5 @@
--- The value of each key: what it has to be, and what stands where it is absent.
+-- The value of each key: what it has to be, and what stands where it is absent. The form is TOML's;
+-- the keys are this project's own.
 use Rattle.std.specs.Prelude.{ℕ, ℤ, pos, negsuc, Bool, true, false, not, ◌||◌, ◌&&◌, ◌==◌, Option, Some, None, [], ◌∷◌, length, nat_le, nat_lt, if◌then◌else◌, is_some, slice_index}
 use Rattle.std.specs.List.{list_all, before_first, after_first}
 use Rattle.std.specs.Option.{option_and_then, option_map_or}

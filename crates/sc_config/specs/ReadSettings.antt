@@ -1,4 +1,5 @@
--- The settings that a TOML text gives, or its first refusal.
+-- The settings that a TOML text gives, or its first refusal. The form is TOML's; the keys are this
+-- project's own.
 use Rattle.std.specs.Prelude.{ℕ, Bool, pos, false, Option, Some, None, Result, Ok, Err, List, [], ◌∷◌, map, codes, length, nat_lt, if◌then◌else◌, position}
 use Rattle.std.specs.Option.{option_and_then, option_map_or, unwrap_or}
 use Rattle.toml.specs.Data.{Data, Members, no_members, member, get_member, as_str, as_table}

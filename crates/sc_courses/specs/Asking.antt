@@ -1,4 +1,4 @@
--- What was asked of the outside beside its edge, and which steps that made.
+-- What was asked of the outside beside its edge, and which steps that made. This project's own.
 use Rattle.std.specs.Prelude.{◌≡◌, ◌+◌, ◌⊎◌, ℕ, suc, List, [], ◌∷◌, ◌++◌, Option, length, map, if◌then◌else◌}
 use Rattle.std.specs.Bool.{nat_lt}
 use Rattle.sc_edge.specs.Faults.{one_more}

@@ -1,5 +1,5 @@
 -- How far a server came: the epochs of its journal, what each of their steps sent, and what a
--- notice was told.
+-- notice was told. This project's own.
 use Rattle.std.specs.Prelude.{◌≡◌, ◌⊎◌, ℕ, List, [], ◌∷◌, ◌++◌, Option, None, Some, map}
 use Rattle.std.specs.List.{fold}
 use Rattle.sc_journal.specs.Kept.{Kept}

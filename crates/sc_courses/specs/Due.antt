@@ -1,4 +1,4 @@
--- A step that was due and had no room.
+-- A step that was due and had no room. This project's own.
 use Rattle.std.specs.Prelude.{List}
 use Rattle.sc_terms.specs.declared.steps.Step.{Step}
 use Rattle.sc_parts.specs.declared.setup.Setup.{Setup}

@@ -1,4 +1,5 @@
--- When an epoch ends: once it has as many steps as the settings ask for, and nothing lives.
+-- When an epoch ends: once it has as many steps as the settings ask for, and nothing lives. This
+-- project's own.
 use Rattle.std.specs.Prelude.{◌≡◌, ◌<◌, ◌≤◌, Bool, true, false, List, [], ◌∷◌, ◌++◌, length}
 use Rattle.sc_terms.specs.declared.steps.Step.{Step}
 use Rattle.sc_terms.specs.declared.steps.Step.TheVariants as steps

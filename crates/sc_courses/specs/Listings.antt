@@ -1,4 +1,5 @@
--- What a notice is told of what lives: each listing is of a point through which the run came.
+-- What a notice is told of what lives: each listing is of a point through which the run came. This
+-- project's own.
 use Rattle.std.specs.Prelude.{◌≡◌, List, [], ◌∷◌, min}
 use Rattle.std.specs.List.{flat_map}
 use Rattle.sc_journal.specs.Kept.{Kept}

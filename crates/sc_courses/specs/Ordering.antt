@@ -1,5 +1,5 @@
 -- Which orders become withdrawals: those that name a session which lives in the epoch that runs
--- then.
+-- then. This project's own.
 use Rattle.std.specs.Prelude.{◌≡◌, ◌&&◌, ◌⊎◌, ◌++◌, Bool, List, [], ◌∷◌, Option, None, Some, if◌then◌else◌, nat_eq}
 use Rattle.std.specs.List.{flat_map}
 use Rattle.std.specs.Option.{is_some}

@@ -1,5 +1,5 @@
 -- What a notice is told of how far a run came: how many steps each epoch has so far, and what lived
--- at the last step.
+-- at the last step. This project's own.
 use Rattle.std.specs.Prelude.{◌≡◌, ◌⊎◌, ℕ, zero, suc, List, [], ◌∷◌, ◌++◌, Option, None, Some, length, map, min}
 use Rattle.std.specs.List.{fold}
 use Rattle.sc_journal.specs.Kept.{Kept}

@@ -1,5 +1,5 @@
 -- How long a server that is recorded keeps steps before it hands them on: each part of its journal
--- was taken within a second.
+-- was taken within a second. This project's own.
 use Rattle.std.specs.Prelude.{◌≡◌, ◌⊎◌, ◌+◌, ◌<◌, ℕ, List, [], ◌∷◌, ◌++◌, Option, None, Some, length}
 use Rattle.std.specs.List.{filter_map, fold}
 use Rattle.sc_journal.specs.Kept.{Kept}

@@ -1,4 +1,4 @@
--- Legs by marks, one for each of them in order.
+-- Legs by marks, one for each of them in order. This project's own.
 use Rattle.std.specs.Prelude.{List, [], ◌∷◌, Bool, true, if◌then◌else◌}
 use Rattle.sc_state.specs.declared.session.Leg.{Leg}
 

@@ -1,4 +1,4 @@
--- The rule of the queue of orders, and the steps of its passes.
+-- The rule of the queue of orders, and the steps of its passes. This project's own.
 use Rattle.std.specs.Prelude.{◌≡◌, ◌≢◌, ◌<◌, ◌+◌, ℕ, true, false, List, [], ◌∷◌, ◌++◌, map, filter, nat_eq}
 use Rattle.std.specs.List.{AllByRecursion}
 use mathlib.Core.Option.{some}

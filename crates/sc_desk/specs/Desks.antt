@@ -1,4 +1,4 @@
--- What a clause says of a desk and its passes.
+-- What a clause says of a desk and its passes. This project's own.
 use Rattle.std.specs.Prelude.{ℕ}
 use Rattle.crossbeam_queue.specs.Passes.{view, IsPassOf, ruled_capacity}
 use Rattle.sc_desk.specs.declared.desk.Desk.{Desk}

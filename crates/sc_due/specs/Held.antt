@@ -1,4 +1,4 @@
--- What is held: entries with what is to be done at each, by the entries' order.
+-- What is held: entries with what is to be done at each, by the entries' order. This project's own.
 use Rattle.std.specs.Prelude.{◌≡◌, List, Option}
 use Rattle.std.specs.Map.{keys_of, lookup, remove_entry}
 use Rattle.std.specs.BTreeMap.{insert_entry, is_at}

@@ -1,4 +1,4 @@
--- Lists that answer a call each, in order.
+-- Lists that answer a call each, in order. This project's own.
 use Rattle.std.specs.Prelude.{ℕ, zero, suc, List, [], ◌∷◌, Option, None}
 use Rattle.sc_edge.specs.Faults.{one_more}
 use Rattle.sc_edge.specs.declared.orders.Order.{Order}

@@ -1,4 +1,4 @@
--- What the calls of an edge do to what it tells and counts.
+-- What the calls of an edge do to what it tells and counts. This project's own.
 use Rattle.std.specs.Prelude.{◌≡◌, ℕ, ◌<◌, ◌≤◌, Bool, true, false, nat_lt, Option, Some, None, List, [], ◌∷◌, ◌++◌, take, if◌then◌else◌}
 use Rattle.sc_value.specs.declared.ids.Place.{Place}
 use Rattle.sc_edge.specs.Edges.{EdgeState, is_back, polled_of}

@@ -1,4 +1,4 @@
--- What comes to an edge in memory, and what its polls answer.
+-- What comes to an edge in memory, and what its polls answer. This project's own.
 use Rattle.std.specs.Prelude.{ℕ, ◌-◌, Bool, true, false, ◌||◌, ◌==◌, List, [], ◌∷◌, ◌++◌, length, take, if◌then◌else◌}
 use Rattle.std.specs.List.{sum_by}
 use Rattle.std.proofs.Math.ListN.{drop}

@@ -1,4 +1,4 @@
--- What an edge in memory knows of places.
+-- What an edge in memory knows of places. This project's own.
 use Rattle.std.specs.Prelude.{ℕ, ◌+◌, Bool, true, false, not, ◌&&◌, ◌||◌, Option, Some, None, List, [], ◌∷◌, ◌++◌, length, nat_lt, nat_le, if◌then◌else◌}
 use Rattle.std.specs.List.{find, flat_map}
 use Rattle.sc_value.specs.declared.ids.Place.{Place}

@@ -1,4 +1,4 @@
--- The bytes that an edge in memory took, each with its place.
+-- The bytes that an edge in memory took, each with its place. This project's own.
 use Rattle.std.specs.Prelude.{ℕ, List, [], ◌∷◌, map, if◌then◌else◌}
 use Rattle.std.specs.List.{flat_map}
 use Rattle.sc_value.specs.declared.ids.Place.{Place}

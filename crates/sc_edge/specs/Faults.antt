@@ -1,4 +1,5 @@
--- Counts that stay at their greatest value, 2^64 - 1, and calls that are to fail.
+-- Counts that stay at their greatest value, 2^64 - 1, and calls that are to fail. This project's
+-- own.
 use Rattle.std.specs.Prelude.{◌≡◌, ℕ, ◌+◌, ◌-◌, ◌^◌, ◌<◌, ◌≤◌, ◌⊎◌, min, List, Bool, if◌then◌else◌}
 use Rattle.std.proofs.Common.{inl, inr, arith}
 use Rattle.std.specs.List.{list_any}

@@ -1,4 +1,4 @@
--- What the shelf in memory is.
+-- What the shelf in memory is. This project's own.
 use Rattle.std.specs.Prelude.{ℕ, Option, List, Bool, ◌||◌, is_none, if◌then◌else◌}
 use Rattle.std.specs.Bool.{nat_eq}
 use Rattle.std.specs.Cmp.Lexicographic.{pointwise}

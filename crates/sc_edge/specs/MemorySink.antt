@@ -1,4 +1,4 @@
--- What the sink in memory is.
+-- What the sink in memory is. This project's own.
 use Rattle.std.specs.Prelude.{ℕ, ◌-◌, min, List, ◌++◌, length, Bool, ◌||◌, ◌&&◌}
 use Rattle.std.specs.Bool.{nat_lt, nat_le}
 use Rattle.sc_edge.specs.Faults.{is_listed, one_more}

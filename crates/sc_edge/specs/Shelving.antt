@@ -1,4 +1,4 @@
--- What a shelf answers, against what it holds under the name.
+-- What a shelf answers, against what it holds under the name. This project's own.
 use Rattle.std.specs.Prelude.{◌≡◌, ℕ, ◌<◌, ◌≤◌, Option, Some, None, List, length}
 use Rattle.sc_edge.specs.declared.shelf.Shelved.{Shelved}
 use Rattle.sc_edge.specs.declared.shelf.Shelved.TheVariants.{Got, Long, Failed, NoMemory}

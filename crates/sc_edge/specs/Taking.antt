@@ -1,4 +1,5 @@
--- What a sink took between two moments. A sink that doesn't tell what it took stays one.
+-- What a sink took between two moments. A sink that doesn't tell what it took stays one. This
+-- project's own.
 use Rattle.std.specs.Prelude.{◌≡◌, ℕ, ◌+◌, ◌≤◌, min, Option, Some, None, List, [], ◌++◌, take, length, refl}
 use Rattle.std.proofs.Common.{sym, ap, subst, ◌∙◌, append_assoc, arith}
 use Rattle.std.proofs.lemmas.List.{append-nil, take-append-le, take_min}

@@ -1,4 +1,4 @@
--- What a part of the outside tells. A part that tells nothing stays one.
+-- What a part of the outside tells. A part that tells nothing stays one. This project's own.
 use Rattle.std.specs.Prelude.{◌≡◌, ◌⊎◌, Option, Some, None, List, [], ◌∷◌, ◌++◌}
 
 -- the answer is the one that was told; where none was told, any

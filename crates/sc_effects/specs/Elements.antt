@@ -1,4 +1,4 @@
--- Changes of one element of a list, each as one function.
+-- Changes of one element of a list, each as one function. This project's own.
 use Rattle.std.specs.Prelude.{ℕ, Bool, true}
 use Rattle.sc_value.specs.declared.ids.ReqId.{ReqId}
 use Rattle.sc_value.specs.declared.ids.SessId.{SessId}

@@ -1,4 +1,4 @@
--- How far a switch came in the lines of a script.
+-- How far a switch came in the lines of a script. This project's own.
 use Rattle.std.specs.Prelude.{◌≡◌, List, ◌∷◌, [], ◌++◌}
 use Rattle.sc_terms.specs.declared.steps.Line.{Line}
 use Rattle.sc_terms.specs.declared.steps.Step.{Step}

@@ -1,4 +1,4 @@
--- What a switch is between the lines of a script, and how far it came in one.
+-- What a switch is between the lines of a script, and how far it came in one. This project's own.
 use Rattle.std.specs.Prelude.{◌≡◌, ◌≤◌, ◌⊎◌, Bool, true, false, List, [], ◌∷◌, ◌++◌, is_some, length}
 use Rattle.sc_value.specs.declared.ids.AppId.{AppId}
 use Rattle.sc_value.specs.declared.ids.Place.{Place}

@@ -1,5 +1,5 @@
 -- Two forms in which hosts may keep their sessions, where each session of the one is read as one of
--- the other: what hosts and nets of the one are in the other.
+-- the other: what hosts and nets of the one are in the other. This project's own.
 use Rattle.std.specs.Prelude.{◌≡◌, ℕ, map}
 use Rattle.sc_value.specs.declared.ids.AppId.{AppId}
 use Rattle.sc_value.specs.declared.message.Request.{Request}

@@ -1,4 +1,5 @@
 -- The beginning of a script: some calls, after which it goes on or, where one was refused, is done.
+-- This project's own.
 use Rattle.std.specs.Prelude.{ℕ, Bool, true, false, Option, None, Some, option_map}
 use Rattle.sc_value.specs.declared.ids.TimerId.{TimerId}
 use Rattle.sc_terms.specs.declared.views.View.{View}

@@ -1,4 +1,4 @@
--- Parts of texts and of heads, as the code reads them.
+-- Parts of texts and of heads, as the code reads them. Heads are those of RFC 3261 section 7.3.
 use Rattle.std.specs.Prelude.{ℕ, List, [], ◌∷◌, Bool, true, false, ◌&&◌, ◌||◌, Option, None, Some}
 use Rattle.std.specs.List.{list_any}
 use Rattle.sc_value.specs.declared.parts.Field.{Field}

@@ -1,5 +1,5 @@
 -- How far the calls of a helper go in a turn: all are accepted, or the turn refuses one and none is
--- made behind it.
+-- made behind it. This project's own.
 use Rattle.std.specs.Prelude.{◌≡◌, ◌⊎◌, ℕ, ◌+◌, zero, suc, Result, Ok, Err}
 use Rattle.sc_value.specs.declared.no_memory.NoMemory as no
 use Rattle.sc_terms.specs.declared.calls.Call.{Call}

@@ -1,5 +1,5 @@
 -- An application session as its whole life: how it began, and its turns; and the two forms in which
--- the hosts keep sessions.
+-- the hosts keep sessions. This project's own.
 use Rattle.std.specs.Prelude.{ℕ, List, [], ◌∷◌}
 use Rattle.sc_value.specs.declared.ids.AppId.{AppId}
 use Rattle.sc_value.specs.declared.message.Request.{Request}

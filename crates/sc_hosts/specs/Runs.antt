@@ -1,5 +1,5 @@
 -- The run of a journal: what its steps make of hosts without sessions, from a first moment on;
--- where its steps are allowed; and what it sends.
+-- where its steps are allowed; and what it sends. This project's own.
 use Rattle.std.specs.Prelude.{◌≡◌, ◌≤◌, ◌<◌, ℕ, ◌+◌, ◌==◌, ◌^◌, List, [], ◌∷◌, ◌++◌, Bool, true, ◌&&◌, Option, None, Some, is_some, length, map, filter, slice_get, sum_by}
 use Rattle.std.specs.List.{list_all, flat_map, fold}
 use Rattle.sc_value.specs.declared.ids.AppId.{AppId}

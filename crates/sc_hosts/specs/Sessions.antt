@@ -1,4 +1,4 @@
--- The forms in which a session is kept, and the entries that are due in it.
+-- The forms in which a session is kept, and the entries that are due in it. This project's own.
 use Rattle.std.specs.Prelude.{ℕ, List}
 use Rattle.sc_terms.specs.declared.calls.CallRecord.{CallRecord}
 use Rattle.sc_terms.specs.declared.calls.End.{End}

@@ -1,4 +1,5 @@
--- Steps taken until nothing is to do. The weight of a state bounds how many there are.
+-- Steps taken until nothing is to do. The weight of a state bounds how many there are. This
+-- project's own.
 use Rattle.std.specs.Prelude.{ℕ, zero, suc, Bool, true, false}
 
 -- so many steps at most, as long as there is something to do

@@ -1,5 +1,5 @@
 -- The steps of the container: what each makes of the net. A turn is taken, a session is withdrawn,
--- a message or a text comes, a place is lost, time passes.
+-- a message or a text comes, a place is lost, time passes. This project's own.
 use Rattle.std.specs.Prelude.{ℕ, ◌==◌, List, [], Bool, true, false, ◌&&◌, Option, None, Some, option_and_then, if◌then◌else◌, length, filter, slice_get, drop}
 use Rattle.std.specs.List.{list_any}
 use Rattle.sc_value.specs.declared.ids.AppId.{AppId}

@@ -1,4 +1,4 @@
--- A host with what it answers at once.
+-- A host with what it answers at once. This project's own.
 use Rattle.sc_state.specs.Hosts.{Host}
 use Rattle.sc_state.specs.declared.host.Taken.{Taken}
 use Rattle.sc_state.specs.declared.session.Session.{Session}

@@ -1,4 +1,4 @@
--- What a journal keeps.
+-- What a journal keeps. This project's own.
 use Rattle.std.specs.Prelude.{ℕ, List}
 
 -- a journal as contracts see it: its items, the oldest first, and its two limits

@@ -1,4 +1,4 @@
--- When an item finds no room in a journal.
+-- When an item finds no room in a journal. This project's own.
 use Rattle.std.specs.Prelude.{◌≡◌, ℕ, ◌+◌, ◌<◌, ◌⊎◌, length}
 use Rattle.sc_journal.specs.declared.journal.PushRefused.{PushRefused}
 use Rattle.sc_journal.specs.declared.journal.PushRefused.TheVariants.{Full, NoMemory}

@@ -1,4 +1,5 @@
 -- What a lease is to a net: it shows what the turn of the first event of its session begins with.
+-- This project's own.
 use Rattle.std.specs.Prelude.{◌≡◌, ◌≤◌, ◌<◌, ℕ, ◌==◌, List, [], ◌∷◌, Bool, false, not, Option, None, Some, option_map, slice_get, filter}
 use Rattle.std.specs.List.{list_any}
 use Rattle.sc_value.specs.declared.ids.AppId.{AppId}

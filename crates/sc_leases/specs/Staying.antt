@@ -1,5 +1,5 @@
 -- A session that goes on to live with the same first event: later events only come at the end of
--- its inbox.
+-- its inbox. This project's own.
 use Rattle.std.specs.Prelude.{◌≡◌, ℕ, List, ◌++◌, Option, Some, slice_get}
 use Rattle.sc_value.specs.declared.ids.AppId.{AppId}
 use Rattle.sc_state.specs.Hosts.{Host}

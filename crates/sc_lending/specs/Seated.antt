@@ -1,4 +1,4 @@
--- The pass with which the rounds sit at a board.
+-- The pass with which the rounds sit at a board. This project's own.
 use Rattle.std.specs.Prelude.{◌≡◌, ℕ, true}
 use Rattle.sc_board.specs.declared.board.Board.{Board}
 use Rattle.sc_board.specs.declared.pass.BoardPass.{BoardPass}

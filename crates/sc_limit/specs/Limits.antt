@@ -1,4 +1,4 @@
--- What a limit on bytes leaves. No limit is none.
+-- What a limit on bytes leaves. No limit is none. This project's own.
 use Rattle.std.specs.Prelude.{ℕ, ◌+◌, ◌-◌, ◌^◌, min, Option, None, Some, List, length, take, Bool, ◌&&◌, false}
 use Rattle.std.specs.Bool.{nat_eq, nat_lt}
 

@@ -1,4 +1,5 @@
--- Live sessions in the order of their serials, none above the last that was given.
+-- Live sessions in the order of their serials, none above the last that was given. This project's
+-- own.
 use Rattle.std.specs.Prelude.{◌≤◌, ◌<◌, ℕ, List, [], ◌∷◌, Option, None, Some}
 use Rattle.std.specs.List.{All}
 use Rattle.sc_state.specs.Hosts.{Host}

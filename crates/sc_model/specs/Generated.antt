@@ -1,6 +1,7 @@
 -- The script of n calls that is made to load a container: each call is set up, answered by a timer,
 -- acknowledged and ended, and the clock goes two seconds on. The messages of a call are those of a
 -- caller `m` at 127.0.0.1:5090 and a container that listens at 127.0.0.1:5060 with the salt `s1`.
+-- This project's own.
 use Rattle.std.specs.Prelude.{ℕ, ◌-◌, ◌*◌, List, [], ◌∷◌, ◌++◌, Option, None, Some, codes, decimal, length}
 use Rattle.std.specs.List.{flat_map, range_with_len}
 use Rattle.sc_value.specs.declared.parts.Address.{Address}

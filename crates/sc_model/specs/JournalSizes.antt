@@ -1,4 +1,4 @@
--- The size of a journal in bytes, by which its limit counts.
+-- The size of a journal in bytes, by which its limit counts. This project's own.
 use Rattle.std.specs.Prelude.{◌≡◌, ℕ, ◌+◌, ◌<◌, ◌⊎◌, List, Option, None, Some, length, sum_by}
 use Rattle.sc_value.specs.declared.parts.Param.{Param}
 use Rattle.sc_value.specs.declared.parts.SipUri.{SipUri}

@@ -1,4 +1,4 @@
--- The records of a run as text.
+-- The records of a run as text. This project's own.
 use Rattle.std.specs.Prelude.{ℕ, List, [], ◌∷◌, ◌++◌, decimal, codes, length, slice_index}
 use Rattle.std.specs.List.{flat_map}
 use Rattle.sc_value.specs.declared.ids.Place.{Place}

@@ -1,4 +1,4 @@
--- What a container is set up with.
+-- What a container is set up with. This project's own.
 use Rattle.std.specs.Prelude.{ℕ, ℤ, pos, negsuc, ◌+◌, ◌*◌, ◌<◌, ◌≤◌, ◌==◌, if◌then◌else◌, List, [], Option, None, Some, option_and_then, length}
 use Rattle.std.specs.List.{slice_get, All}
 use Rattle.sc_terms.specs.declared.settings.Config.{Config}

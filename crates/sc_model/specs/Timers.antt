@@ -1,5 +1,6 @@
 -- Time: what is due of all entries that were ever made. An entry is made, and it ends when its
--- moment came and it was taken, or before.
+-- moment came and it was taken, or before. Timers are those of RFC 3261 section 17 and JSR 289
+-- section 6.1.2; their order is this project's own.
 use Rattle.std.specs.Prelude.{ℕ, Bool, if◌then◌else◌, List, [], ◌∷◌, nat_le}
 use Rattle.std.specs.List.{filter, list_any}
 use Rattle.std.specs.declared.cmp.Ordering.{Ordering}

@@ -1,4 +1,4 @@
--- The moments that a journal and a script say: those of their ticks.
+-- The moments that a journal and a script say: those of their ticks. This project's own.
 use Rattle.std.specs.Prelude.{ℕ, List, Option, None, Some}
 use Rattle.std.specs.List.{filter_map}
 use Rattle.sc_terms.specs.declared.steps.Line.{Line}

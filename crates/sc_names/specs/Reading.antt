@@ -1,4 +1,4 @@
--- What a reader of texts answers.
+-- What a reader of texts answers. This project's own.
 use Rattle.std.specs.Prelude.{◌≡◌, ℕ, ◌<◌, ◌^◌, false, ◌∷◌, ◌++◌, ◌==◌, Option, Some, IfSome, decimal}
 use Rattle.std.specs.List.{list_any}
 use Rattle.sc_value.specs.declared.ids.AppId.{AppId}

@@ -1,5 +1,5 @@
 -- The events of an application session over a journal are a merge of those that were handled, those
--- that were purged as it ended, and those that wait.
+-- that were purged as it ended, and those that wait. This project's own.
 use Rattle.std.specs.Prelude.{◌≡◌, ◌⊎◌, ℕ, List, [], ◌∷◌, ◌++◌}
 use Rattle.sc_once.specs.Growing.{IsBetween}
 

@@ -1,4 +1,5 @@
--- The steps of a run, with what each sends, and whether it is the loss of a place that failed.
+-- The steps of a run, with what each sends, and whether it is the loss of a place that failed. This
+-- project's own.
 use Rattle.std.specs.Prelude.{Bool, true, List}
 use Rattle.sc_value.specs.declared.ids.Place.{Place}
 use Rattle.sc_value.specs.declared.message.Sent.{Sent}

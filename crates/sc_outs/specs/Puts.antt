@@ -1,4 +1,4 @@
--- What was put of what the deeds of a run send.
+-- What was put of what the deeds of a run send. This project's own.
 use Rattle.std.specs.Prelude.{◌≡◌, false, List, ◌++◌}
 use Rattle.sc_tokens.specs.Bytes.{Bytes}
 use Rattle.sc_value.specs.declared.ids.Place.{Place}

@@ -1,4 +1,6 @@
 -- The names of the timers of an application session and of its transactions, and their order.
+-- Timers are those of RFC 3261 section 17 and JSR 289 section 6.1.2; their order is this project's
+-- own.
 use Rattle.std.specs.Prelude.{ℕ, Bool}
 use Rattle.std.specs.declared.cmp.Ordering.{Ordering}
 use Rattle.std.specs.Ordering.{nat_cmp, eq_by_cmp, on, then_cmp}

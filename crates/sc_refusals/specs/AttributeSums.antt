@@ -1,4 +1,4 @@
--- The bytes of an attribute beside one of a name.
+-- The bytes of an attribute beside one of a name. This project's own.
 use Rattle.std.specs.Prelude.{ℕ, ◌+◌, if◌then◌else◌, length}
 use Rattle.sc_tokens.specs.Names.{same_bytes}
 use Rattle.sc_value.specs.declared.parts.Field.{Field}

@@ -1,4 +1,4 @@
--- Which command the words of a command line are.
+-- Which command the words of a command line are. This project's own.
 use Rattle.std.specs.Prelude.{◌≡◌, ◌⊎◌, ℕ, nat_le, Option, Some, None, List, [], ◌∷◌, codes, if◌then◌else◌, is_some}
 use Rattle.std.specs.Option.{option_and_then}
 use Rattle.sc_tokens.specs.Names.{same_bytes}

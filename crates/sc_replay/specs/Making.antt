@@ -1,4 +1,4 @@
--- What `make` promises.
+-- What `make` promises. This project's own.
 use Rattle.std.specs.Prelude.{◌≡◌, ℕ, Option, Some, None, List, codes}
 use Rattle.sc_tokens.specs.Bytes.{Bytes}
 use Rattle.sc_model.specs.Generated.{generated_text}

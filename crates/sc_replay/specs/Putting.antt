@@ -1,4 +1,4 @@
--- How a text was put.
+-- How a text was put. This project's own.
 use Rattle.std.specs.Prelude.{Option}
 use Rattle.sc_tokens.specs.Bytes.{Bytes}
 use Rattle.sc_edge.specs.Taking.{Takes, TakesPart}

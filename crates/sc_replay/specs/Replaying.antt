@@ -1,4 +1,5 @@
--- What `replay` promises: when each status comes, and what the journal and the sink then hold.
+-- What `replay` promises: when each status comes, and what the journal and the sink then hold. This
+-- project's own.
 use Rattle.std.specs.Prelude.{◌≡◌, ℕ, ◌⊎◌, List, [], ◌∷◌, Option, None, Some, Ok, Err, codes, map, get_or}
 use Rattle.sc_terms.specs.declared.settings.Config.{Config}
 use Rattle.sc_terms.specs.declared.settings.Dar.{Dar}

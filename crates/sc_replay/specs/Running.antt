@@ -1,4 +1,4 @@
--- What the parts of `replay` answer.
+-- What the parts of `replay` answer. This project's own.
 use Rattle.std.specs.Prelude.{◌≡◌, ◌⊎◌, List, Option, Some}
 use Rattle.sc_terms.specs.declared.steps.Line.{Line}
 use Rattle.sc_terms.specs.declared.steps.Step.{Step}

@@ -1,4 +1,4 @@
--- Why a step was refused.
+-- Why a step was refused. This project's own.
 use Rattle.sc_model.specs.Settings.{IsSetup}
 use Rattle.sc_switch.specs.declared.refused.StepRefused.{StepRefused}
 use Rattle.sc_switch.specs.declared.refused.StepRefused.TheVariants as refused

@@ -1,4 +1,4 @@
--- What a server does that isn't heard: turns, moments and orders.
+-- What a server does that isn't heard: turns, moments and orders. This project's own.
 use Rattle.sc_edge.specs.Edges.{EdgeState}
 use Rattle.std.specs.Prelude.{◌≡◌, ◌⊎◌, ◌++◌, ℕ, List, [], ◌∷◌, Option}
 use Rattle.sc_courses.specs.Asking.{Answered, AreAnswers, Asked, Given, Source, Sources}

@@ -1,4 +1,4 @@
--- What a poll, and a put that failed, told of an edge.
+-- What a poll, and a put that failed, told of an edge. This project's own.
 use Rattle.std.specs.Prelude.{◌≡◌, ◌⊎◌, ℕ, List, []}
 use Rattle.sc_value.specs.declared.ids.Place.{Place}
 use Rattle.sc_edge.specs.Edges.{EdgeState}

@@ -1,4 +1,5 @@
 -- Where a server stands: between two steps, within an answer of its edge, and where its run ends.
+-- This project's own.
 use Rattle.std.specs.Prelude.{◌≡◌, ◌⊎◌, ℕ, Bool, true, false, List, [], ◌∷◌, ◌++◌, length}
 use Rattle.std.specs.Option.{is_some}
 use Rattle.sc_tokens.specs.Bytes.{Bytes}

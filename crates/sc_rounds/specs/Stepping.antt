@@ -1,4 +1,4 @@
--- What became of a turn that was brought, of a moment, and of an order.
+-- What became of a turn that was brought, of a moment, and of an order. This project's own.
 use Rattle.std.specs.Prelude.{◌<◌, ◌≤◌, ◌+◌, ◌⊎◌, ◌++◌, Bool, true, false, ℕ, List, [], ◌∷◌, Option, Some, length}
 use Rattle.sc_value.specs.declared.ids.AppId.{AppId}
 use Rattle.sc_value.specs.declared.message.Sent.{Sent}

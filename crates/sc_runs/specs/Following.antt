@@ -1,4 +1,4 @@
--- Which journals follow the lines of a script.
+-- Which journals follow the lines of a script. This project's own.
 use Rattle.std.specs.Prelude.{◌≡◌, ◌⊎◌, ℕ, List, [], ◌∷◌, ◌++◌, Bool, Option, None, Some, option_map, is_some, slice_get, if◌then◌else◌, ◌&&◌, nat_le}
 use Rattle.std.specs.Option.{option_and_then}
 use Rattle.sc_value.specs.declared.ids.AppId.{AppId}

@@ -1,4 +1,4 @@
--- What is next in a net: the first events of its sessions.
+-- What is next in a net: the first events of its sessions. This project's own.
 use Rattle.std.specs.Prelude.{ℕ, ◌+◌, List, [], ◌∷◌, ◌++◌, Option, None, Some, option_map, slice_get, nat_lt, if◌then◌else◌}
 use Rattle.std.specs.List.{filter_map, fold}
 use Rattle.sc_value.specs.declared.ids.AppId.{AppId}

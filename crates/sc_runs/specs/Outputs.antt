@@ -1,4 +1,5 @@
 -- The output of a run as text: a record for each message that its journal sends, and a last line.
+-- This project's own.
 use Rattle.std.specs.Prelude.{List, ◌++◌, length}
 use Rattle.sc_terms.specs.declared.steps.Step.{Step}
 use Rattle.sc_parts.specs.declared.setup.Setup.{Setup}

@@ -1,4 +1,4 @@
--- What the parts of the reader of scripts answer.
+-- What the parts of the reader of scripts answer. This project's own.
 use Rattle.std.specs.Prelude.{◌≡◌, ◌++◌, ℕ, List, [], Option, None, Some, Result, Ok, Err}
 use Rattle.sc_terms.specs.declared.steps.Line.{Line}
 use Rattle.sc_tokens.specs.Cuts.{pieces}

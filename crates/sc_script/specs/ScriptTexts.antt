@@ -1,4 +1,4 @@
--- Scripts as text: the lines that a text says, or where it goes wrong and how.
+-- Scripts as text: the lines that a text says, or where it goes wrong and how. This project's own.
 use Rattle.std.specs.Prelude.{ℕ, zero, suc, ◌+◌, ◌-◌, ◌==◌, ◌^◌, List, [], ◌∷◌, Bool, true, false, not, ◌&&◌, ◌||◌, Option, None, Some, Result, Ok, Err, if◌then◌else◌, nat_lt, nat_le, length, take, codes}
 use Rattle.std.specs.List.{slice_get}
 use Rattle.sc_value.specs.declared.ids.AppId.{AppId}

@@ -1,4 +1,5 @@
--- Changes of one element of a list, and what is done, by the values that it takes.
+-- Changes of one element of a list, and what is done, by the values that it takes. This project's
+-- own.
 use Rattle.std.specs.Prelude.{List, ◌∷◌, [], true, Option, Some}
 use Rattle.std.specs.List.{fold}
 use Rattle.sc_value.specs.declared.ids.Directive.{Directive}

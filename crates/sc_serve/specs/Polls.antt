@@ -1,4 +1,4 @@
--- How often an edge is polled.
+-- How often an edge is polled. This project's own.
 use Rattle.std.specs.Prelude.{◌≡◌, ◌≤◌, ◌+◌, ◌*◌, ℕ, zero, suc}
 use Rattle.sc_edge.specs.Edges.{EdgeState}
 use Rattle.sc_edge.specs.Faults.{one_more}

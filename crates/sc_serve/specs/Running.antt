@@ -1,4 +1,4 @@
--- A server between its rounds, and where they end.
+-- A server between its rounds, and where they end. This project's own.
 use Rattle.std.specs.Prelude.{◌≡◌, ◌≤◌, ◌+◌, ◌*◌, ◌⊎◌, ℕ, List, [], Option, None, Some, length}
 use Rattle.std.specs.Option.{is_some}
 use Rattle.sc_journal.specs.Kept.{Kept}

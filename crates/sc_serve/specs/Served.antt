@@ -1,5 +1,5 @@
 -- What `serve` promises: when each status comes, and what was heard, taken, put and told until
--- then.
+-- then. This project's own.
 use Rattle.std.specs.Prelude.{◌≡◌, List, [], ◌∷◌, ◌++◌, Option, None, Some, true, codes, length}
 use Rattle.std.specs.Option.{is_some}
 use Rattle.sc_terms.specs.declared.steps.Step.{Step}

@@ -1,4 +1,5 @@
--- What is brought of a turn, by whom was called at its event.
+-- What is brought of a turn, by whom was called at its event. Which of them is called is JSR 289
+-- sections 6.1.2 and 9; the lease is this project's own.
 use Rattle.std.specs.Prelude.{List, Option, None, Some, if◌then◌else◌}
 use Rattle.sc_terms.specs.declared.views.View.{View}
 use Rattle.sc_terms.specs.declared.events.Event.{Event}

@@ -1,4 +1,4 @@
--- The range of the numbers that a lease shows.
+-- The range of the numbers that a lease shows. This project's own.
 use Rattle.std.specs.Prelude.{ℕ, List, Bool, nat_lt}
 use Rattle.std.specs.List.{list_all}
 use Rattle.sc_terms.specs.declared.views.SessionView.{SessionView}

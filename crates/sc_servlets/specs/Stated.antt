@@ -1,4 +1,4 @@
--- What the kinds of a catalogue state.
+-- What the kinds of a catalogue state. This project's own.
 use Rattle.std.specs.Prelude.{Option}
 use Rattle.sc_terms.specs.declared.events.Event.{Event}
 use Rattle.sc_terms.specs.declared.charters.Charter.{Charter}

@@ -1,4 +1,5 @@
 -- What a turn shows beside its session, and changes of one element of a list as one function each.
+-- This project's own.
 use Rattle.std.specs.Prelude.{ℕ, ◌+◌, [], Bool, Some, false, nat_le, nat_lt}
 use Rattle.sc_value.specs.declared.ids.SessId.{SessId}
 use Rattle.sc_value.specs.declared.message.Request.{Request}

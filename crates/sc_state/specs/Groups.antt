@@ -1,5 +1,6 @@
 -- The numbers under which transactions are found. Those that are looked for have the same; others
--- may have it too, which costs time alone.
+-- may have it too, which costs time alone. Transactions are matched as RFC 3261 section 17 has it;
+-- the numbers are this project's own.
 use Rattle.std.specs.Prelude.{ℕ, ◌+◌, ◌*◌, ◌%◌, ◌^◌, List, decimal}
 use Rattle.std.specs.List.{fold}
 use Rattle.std.specs.Option.{option_map_or}

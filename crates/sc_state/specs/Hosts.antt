@@ -1,4 +1,4 @@
--- A host as contracts see it: plain lists.
+-- A host as contracts see it: plain lists. This project's own.
 use Rattle.std.specs.Prelude.{ℕ, List}
 use Rattle.sc_state.specs.declared.host.Client.{Client}
 use Rattle.sc_state.specs.declared.host.Live.{Live}

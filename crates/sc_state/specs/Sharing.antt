@@ -1,4 +1,4 @@
--- The lists of a host, which copies of it have in common.
+-- The lists of a host, which copies of it have in common. This project's own.
 use Rattle.std.specs.declared.alloc.Global.{Global}
 use Rattle.std.specs.declared.option.Option.TheVariants.{None, Some}
 use Rattle.std.specs.declared.sync.Arc.{Arc}

@@ -1,4 +1,4 @@
--- What a turn leaves of a net, in parts by the values that they take.
+-- What a turn leaves of a net, in parts by the values that they take. This project's own.
 use Rattle.std.specs.Prelude.{◌≡◌, ℕ, ◌==◌, List, [], Bool, true, false, ◌&&◌, Option, None, Some, if◌then◌else◌, length, slice_get, drop}
 use Rattle.std.specs.List.{list_any}
 use Rattle.std.specs.Option.{option_map_or}

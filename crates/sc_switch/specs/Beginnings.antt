@@ -1,4 +1,4 @@
--- What a turn begins with, kept from the moment at which it was lent out.
+-- What a turn begins with, kept from the moment at which it was lent out. This project's own.
 use Rattle.std.specs.Prelude.{◌≡◌, ℕ, List, Bool, true, false, Option, None, Some, IfSome}
 use Rattle.sc_value.specs.declared.ids.AppId.{AppId}
 use Rattle.sc_terms.specs.declared.settings.Config.{Config}

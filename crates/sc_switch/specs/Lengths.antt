@@ -1,4 +1,4 @@
--- The lengths of the written parts of a message.
+-- The lengths of the written parts of a message. This project's own.
 use Rattle.std.specs.Prelude.{ℕ, ◌+◌, Option, None, Some, length}
 use Rattle.sc_tokens.specs.Bytes.{Bytes}
 

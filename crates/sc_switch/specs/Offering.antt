@@ -1,4 +1,4 @@
--- What is lent out, and what a brought turn is to the live leases.
+-- What is lent out, and what a brought turn is to the live leases. This project's own.
 use Rattle.std.specs.Prelude.{◌≡◌, ◌==◌, ℕ, ◌+◌, map, filter, List, [], ◌∷◌, true, false, Option, None, Some, if◌then◌else◌}
 use Rattle.std.specs.List.{fold}
 use Rattle.sc_value.specs.declared.ids.AppId.{AppId}

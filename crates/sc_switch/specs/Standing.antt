@@ -1,5 +1,5 @@
 -- What callers see of a switch, and what it stands for: the run of its journal, with sessions kept
--- as what they are.
+-- as what they are. This project's own.
 use Rattle.std.specs.Prelude.{◌≡◌, ℕ, ◌≤◌, List, [], ◌++◌, Bool, Option, Some, is_some, length, min}
 use Rattle.std.specs.List.{find, flat_map}
 use Rattle.std.specs.Option.{option_and_then}

@@ -1,4 +1,4 @@
--- What a step is to change, before it changes it.
+-- What a step is to change, before it changes it. This project's own.
 use Rattle.std.specs.Prelude.{◌≡◌, ◌<◌, ◌≤◌, ◌+◌, ◌⊎◌, ℕ, length, sum_by}
 use Rattle.sc_terms.specs.declared.calls.End.TheVariants as ends
 use Rattle.sc_terms.specs.declared.steps.Step.{Step}

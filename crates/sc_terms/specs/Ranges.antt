@@ -1,4 +1,4 @@
--- The ranges of settings.
+-- The ranges of settings. This project's own.
 use Rattle.std.specs.Prelude.{ℤ, pos, negsuc, Bool, ◌==◌, ◌&&◌, List, length, nat_le}
 
 -- -1 to 10,080 minutes

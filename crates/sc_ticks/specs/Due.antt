@@ -1,4 +1,5 @@
--- What may be due before a moment: the transactions and sessions of which something is.
+-- What may be due before a moment: the transactions and sessions of which something is. This
+-- project's own.
 use Rattle.std.specs.Prelude.{ℕ, ◌+◌, List, [], ◌∷◌, ◌++◌}
 use Rattle.std.specs.List.{filter, flat_map}
 use Rattle.sc_book.specs.Words.{is_before}

@@ -1,4 +1,4 @@
--- What is due, by its key: of the items of one key the first stands.
+-- What is due, by its key: of the items of one key the first stands. This project's own.
 use Rattle.std.specs.Prelude.{ℕ, List, [], ◌∷◌, if◌then◌else◌}
 use Rattle.std.specs.BTreeMap.{insert_entry}
 use Rattle.sc_model.specs.Timers.{DueEntry, due_order, is_due}

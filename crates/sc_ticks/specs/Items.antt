@@ -1,4 +1,4 @@
--- What is due in a net, as the code keeps it.
+-- What is due in a net, as the code keeps it. This project's own.
 use Rattle.std.specs.Prelude.{ℕ, List, [], ◌∷◌, ◌++◌, Some, if◌then◌else◌}
 use Rattle.sc_value.specs.declared.ids.AppId.{AppId}
 use Rattle.sc_parts.specs.declared.timers.TimerName.{TimerName}

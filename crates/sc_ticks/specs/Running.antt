@@ -1,4 +1,4 @@
--- The entries of a session by their moments and timers.
+-- The entries of a session by their moments and timers. This project's own.
 use Rattle.std.specs.Prelude.{ℕ, ◌==◌, Bool, ◌&&◌}
 use Rattle.sc_parts.specs.declared.timers.TimerName.{TimerName}
 use Rattle.sc_parts.specs.TimerNames.{same_timer}

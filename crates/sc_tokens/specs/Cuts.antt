@@ -1,4 +1,4 @@
--- Texts cut at a sign.
+-- Texts cut at a sign. Signs are those of RFC 3261 section 25.1.
 use Rattle.std.specs.Prelude.{ℕ, Bool, List, [], ◌∷◌, ◌==◌, ◌+◌, Option, take, drop, if◌then◌else◌}
 use Rattle.std.specs.List.{position, position_or_len, list_any}
 use Rattle.std.specs.Option.{option_map}

@@ -1,4 +1,4 @@
--- A number of a session.
+-- A number of a session. This project's own.
 use Rattle.std.specs.Prelude.{ℕ, ◌==◌, Bool, ◌&&◌}
 use Rattle.sc_value.specs.declared.ids.AppId.{AppId}
 use Rattle.sc_hosts.specs.Transacting.{is_same_app}

@@ -1,4 +1,5 @@
--- What a turn holds, and what a call makes of it.
+-- What a turn holds, and what a call makes of it. Calls are those of JSR 289 section 6; how a turn
+-- holds them is this project's own.
 use Rattle.std.specs.Prelude.{◌≡◌, List, [], ◌∷◌, ◌++◌, Bool, true, false, None, Some, Result, Ok, Err, nat_le, if◌then◌else◌}
 use Rattle.sc_terms.specs.declared.views.View.{View}
 use Rattle.sc_terms.specs.declared.calls.Call.{Call}

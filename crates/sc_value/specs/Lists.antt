@@ -1,4 +1,4 @@
--- Changing one item of a list.
+-- Changing one item of a list. This project's own.
 use Rattle.std.specs.Prelude.{ℕ, zero, suc, List, [], ◌∷◌, Bool, if◌then◌else◌}
 
 -- the list with its first item that passes the test changed

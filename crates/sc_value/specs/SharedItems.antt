@@ -1,4 +1,4 @@
--- The items of a list that may have several owners.
+-- The items of a list that may have several owners. This project's own.
 use Rattle.std.specs.Prelude.{List, [], Option, None, Some}
 use Rattle.std.specs.declared.alloc.Global.{Global}
 use Rattle.std.specs.declared.sync.Arc.{Arc}

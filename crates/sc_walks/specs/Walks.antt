@@ -1,5 +1,5 @@
 -- Relations of what was and what is, which every change that a step makes of a host, and of a net,
--- keeps.
+-- keeps. This project's own.
 use Rattle.std.specs.Prelude.{◌≡◌, ℕ, ◌+◌, List, [], ◌∷◌, ◌++◌, Some}
 use Rattle.sc_value.specs.Lists.{change_first, remove_first}
 use Rattle.sc_value.specs.declared.message.Request.{Request}

@@ -1,4 +1,4 @@
--- Changes of one host of a net.
+-- Changes of one host of a net. This project's own.
 use Rattle.std.specs.Prelude.{ℕ, Option, None, Some, slice_get}
 use Rattle.sc_value.specs.Lists.{change_first, change_nth}
 use Rattle.sc_value.specs.declared.message.Response.{Response}
