@@ -9,6 +9,8 @@ use std::time::Duration;
 #[derive(Drop)]
 pub struct Bell {
     rings: AtomicU64,
+    /// How many sleep on it, or are about to.
+    sleepers: AtomicU64,
 }
 
 impl Bell {
@@ -16,6 +18,7 @@ impl Bell {
     pub fn new() -> Bell {
         Bell {
             rings: AtomicU64::new(0),
+            sleepers: AtomicU64::new(0),
         }
     }
 
@@ -24,10 +27,13 @@ impl Bell {
         self.rings.load(Ordering::SeqCst)
     }
 
-    /// Rings it, and wakes one of those that sleep.
+    /// Rings it, and wakes one of those that sleep. Where none does the system isn't asked: who is
+    /// about to sleep counts itself before it looks whether it was rung.
     pub fn wake_one(&self) {
         self.rings.fetch_add(1, Ordering::SeqCst);
-        self.rings.wake_one();
+        if self.sleepers.load(Ordering::SeqCst) > 0 {
+            self.rings.wake_one();
+        }
     }
 
     /// Rings it, and wakes all that sleep.
@@ -40,10 +46,12 @@ impl Bell {
     /// since
     /// `seen` rings. It may wake for no reason.
     pub fn sleep<R: Wait>(&self, rt: &R, seen: u64, millis: u64) {
+        self.sleepers.fetch_add(1, Ordering::SeqCst);
         self.rings.park_timeout(
             rt,
             (seen & 0xffff_ffff) as u32,
             Duration::from_millis(millis),
         );
+        self.sleepers.fetch_sub(1, Ordering::SeqCst);
     }
 }

@@ -17,10 +17,10 @@ use std::sync::Wait;
 use std::thread;
 
 /// How often a worker looks for a job before it sleeps.
-const LOOKS: u32 = 20;
+const LOOKS: u32 = 4;
 
 /// How long it sleeps at most before it looks again, in milliseconds.
-const NAP: u64 = 100;
+const NAP: u64 = 500;
 
 /// How long it sleeps where there is no room for a result, in milliseconds.
 const ROOM_NAP: u64 = 1;
