@@ -6,4 +6,4 @@ mod lending;
 mod seat;
 
 pub use lending::work_once;
-pub use seat::{Seat, await_at, dismiss_at, rest_at};
+pub use seat::{Seat, await_at, dismiss_at};

@@ -146,14 +146,6 @@ pub fn collect_at<R: Wait>(rt: &R, seat: &mut Option<Seat<'_>>) -> Option<Done> 
     }
 }
 
-/// Waits until a result is brought where there is a seat, so many milliseconds at most.
-pub fn rest_at<R: Wait>(rt: &R, seat: &Option<Seat<'_>>, millis: u64) {
-    match seat {
-        Some(seat) => seat.await_result(rt, millis),
-        None => {}
-    }
-}
-
 /// Waits until a worker has begun where there is a seat, for 2 seconds at most.
 pub fn await_at<R: Wait>(rt: &R, seat: &Option<Seat<'_>>) {
     match seat {

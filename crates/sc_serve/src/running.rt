@@ -12,7 +12,7 @@ use crate::stop::Stop;
 use sc_board::{Board, BoardPass, beside_crew};
 use sc_edge::{Clock, Edge, Gate, Notice, Orders};
 use sc_journal::Journal;
-use sc_lending::{Seat, await_at, dismiss_at, rest_at};
+use sc_lending::{Seat, await_at, dismiss_at};
 use sc_rounds::end_epoch;
 use sc_servlets::Catalogue;
 use sc_terms::{Step, Within};
@@ -235,13 +235,15 @@ pub fn run<R: Wait, E: Edge, T: Clock, O: Orders, N: Notice<Journal<Step>>>(
 }
 
 /// A server that has nothing to do waits until something comes to the edge, or, where a turn is lent
-/// out, until it is brought.
+/// out, until it is brought, for a short time in either case where it has no seat.
 fn rest<R: Wait, E: Edge>(rt: &R, server: &Server, seat: &Option<Seat<'_>>, edge: &mut E)
     ensures { E.state edge.new ≡ E.state edge.old }
 {
-    if server.core.switch.leases() > 0 {
-        rest_at(rt, seat, SHORT_REST);
-    } else {
+    if server.core.switch.leases() == 0 {
         edge.rest(REST);
+    } else if let Some(seat) = seat {
+        seat.await_result(rt, SHORT_REST);
+    } else {
+        edge.rest(SHORT_REST);
     }
 }
