@@ -1,6 +1,6 @@
 -- The charters of the applications that every container comes with (JSR 289 sections 6, 10, 12), as
 -- scripts of the calls that they make.
-use Rattle.std.specs.Prelude.{ℕ, ◌==◌, List, [], ◌∷◌, Bool, true, false, not, ◌&&◌, Option, None, Some, is_some, option_and_then, unwrap_or, if◌then◌else◌, codes, decimal, pos}
+use Rattle.std.specs.Prelude.{ℕ, ◌==◌, List, [], ◌∷◌, ◌++◌, Bool, true, false, not, ◌&&◌, Option, None, Some, is_some, option_and_then, unwrap_or, if◌then◌else◌, codes, decimal, pos}
 use Rattle.std.specs.List.{find, slice_get, filter_map, list_any}
 use Rattle.std.specs.Option.{option_map_or}
 use Rattle.sc_value.specs.declared.ids.ReqId.{ReqId}
