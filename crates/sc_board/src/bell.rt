@@ -42,8 +42,7 @@ impl Bell {
         self.rings.wake_all();
     }
 
-    /// Sleeps until it is rung, so many milliseconds at most, and not at all where it was rung
-    /// since
+    /// Sleeps until it is rung, so many milliseconds at most, and not at all where it was rung since
     /// `seen` rings. It may wake for no reason.
     pub fn sleep<R: Wait>(&self, rt: &R, seen: u64, millis: u64) {
         self.sleepers.fetch_add(1, Ordering::SeqCst);

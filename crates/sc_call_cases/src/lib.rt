@@ -1,4 +1,4 @@
-//! Cases on dialogs, transactions, best responses, names and the choice of applications.
+//! Cases on dialogs, transactions, best responses, names, the choice of applications and queues.
 //! A crate with tests is proved twice, so they stand here.
 #![tactic(auto)]
 
@@ -10,6 +10,8 @@ mod dialog_tests;
 mod due_tests;
 #[cfg(test)]
 mod names_tests;
+#[cfg(test)]
+mod queue_tests;
 #[cfg(test)]
 mod router_tests;
 #[cfg(test)]
