@@ -1,4 +1,5 @@
 pub mod HostTaking
+pub mod HostsAt
 pub mod Literals
 pub mod NamedHosts
 mod Answering
