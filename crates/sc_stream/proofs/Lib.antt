@@ -4,5 +4,6 @@ mod FrameLaws
 mod FrontLaws
 mod HearSteps
 mod Knowing
+mod Moving
 mod ReadSteps
 pub mod Telling

@@ -120,7 +120,7 @@ impl Stream {
         match parted(heard) {
             Ok(heard) => {
                 self.first = first;
-                self.from = let_go(&mut self.kept, self.from + taken);
+                self.from = let_go(&mut self.kept, self.from + taken, taken == 0);
                 heard
             }
             Err(ended) => {
@@ -135,18 +135,34 @@ impl Stream {
     }
 }
 
-// Bytes before `from` are let go of once they are half of all, so that each byte is moved for one
-// that was given. How many of them are still there.
-fn let_go(bytes: &mut Vec<u8>, from: usize) -> usize
+// Bytes before `from` are let go of once they are all that there are. Where no message ends in what
+// is left, they are so once they are half of all: each byte is moved for one that was given. How
+// many of them are still there.
+fn let_go(bytes: &mut Vec<u8>, from: usize, open: bool) -> usize
     requires { from ≤ length bytes.old.items }
     ensures exact { drop result bytes.new.items ≡ drop from bytes.old.items }
     ensures within { result ≤ length bytes.new.items }
 {
-    if from < bytes.len() - from {
+    let len = bytes.len();
+    if len <= from {
+        bytes.clear();
+        return 0;
+    }
+    if !open || from < len - from {
         return from;
     }
-    bytes.drain(..from);
+    remove_front(bytes, from);
     0
+}
+
+// So many bytes at the front go.
+fn remove_front(bytes: &mut Vec<u8>, count: usize)
+    requires { count ≤ length bytes.old.items }
+    ensures { bytes.new.items ≡ drop count bytes.old.items }
+{
+    let len = bytes.len();
+    bytes.copy_within(count..len, 0);
+    bytes.truncate(len - count);
 }
 
 // What is heard, what is known of the bytes that are left then, and how many bytes it takes.
