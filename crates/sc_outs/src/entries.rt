@@ -4,7 +4,7 @@ ghost use Rattle.std.specs.Prelude.{◌≡◌, ◌≤◌, ◌++◌, [], drop, le
 ghost use Rattle.sc_outs.specs.Owing.{Distinct, IsKept, bytes_of, is_at};
 
 use crate::held::Held;
-use sc_value::{List, NoMemory, Place, Text, same_place};
+use sc_value::{List, NoMemory, Place, same_place};
 
 /// The entry of a place.
 pub fn place_of(outs: &[Held], place: Place) -> Option<usize>
@@ -14,15 +14,16 @@ pub fn place_of(outs: &[Held], place: Place) -> Option<usize>
 }
 
 /// Puts a text behind what is left of a place, all of it or, for want of memory, nothing.
-pub fn owe_text(outs: &mut List<Held>, place: Place, text: Text) -> Result<(), NoMemory>
+pub fn owe_text(outs: &mut List<Held>, place: Place, text: Vec<u8>) -> Result<(), NoMemory>
     requires distinct { Distinct outs.old }
     ensures distinct { Distinct outs.new }
     ensures ok { OnOk result
-        (IsKept (bytes_of outs.old) place (bytes_of outs.old place ++ text) (bytes_of outs.new)) }
+        (IsKept (bytes_of outs.old) place (bytes_of outs.old place ++ text.items)
+        (bytes_of outs.new)) }
     ensures err { OnErr result (outs.new ≡ outs.old) }
 {
     match place_of(outs.as_slice(), place) {
-        Some(at) => owe_more(&mut outs.items, place, at, text.as_bytes()),
+        Some(at) => owe_more(&mut outs.items, place, at, text.as_slice()),
         None => owe_first(outs, place, text),
     }
 }
@@ -39,15 +40,16 @@ fn owe_more(outs: &mut [Held], place: Place, at: usize, text: &[u8]) -> Result<(
     outs[at].append(text)
 }
 
-fn owe_first(outs: &mut List<Held>, place: Place, text: Text) -> Result<(), NoMemory>
+fn owe_first(outs: &mut List<Held>, place: Place, text: Vec<u8>) -> Result<(), NoMemory>
     requires distinct { Distinct outs.old }
     requires none { position (is_at place) outs.old ≡ None }
     ensures distinct { Distinct outs.new }
     ensures ok { OnOk result
-        (IsKept (bytes_of outs.old) place (bytes_of outs.old place ++ text) (bytes_of outs.new)) }
+        (IsKept (bytes_of outs.old) place (bytes_of outs.old place ++ text.items)
+        (bytes_of outs.new)) }
     ensures err { OnErr result (outs.new ≡ outs.old) }
 {
-    let held = Held::new(place, text)?;
+    let held = Held::new(place, text);
     outs.push(held)?;
     Ok(())
 }

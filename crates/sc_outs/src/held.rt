@@ -1,8 +1,8 @@
 //! What is left to be put to one place.
 
-ghost use Rattle.std.specs.Prelude.{◌≡◌, ◌≤◌, ◌++◌, drop, length, IfOk, OnOk, OnErr};
+ghost use Rattle.std.specs.Prelude.{◌≡◌, ◌≤◌, ◌++◌, drop, length, OnOk, OnErr};
 
-use sc_value::{NoMemory, Place, Text};
+use sc_value::{NoMemory, Place};
 use std::marker::Model;
 
 /// What is left to be put to a place: the bytes from `from` on.
@@ -25,16 +25,15 @@ impl Model for Held {
 }
 
 impl Held {
-    /// All of the text is left. Its bytes are moved where nobody else owns them, else copied.
-    pub fn new(place: Place, text: Text) -> Result<Held, NoMemory>
-        ensures { IfOk result (λ held. held ≡ record { place = place; left = text }) }
+    /// All of these bytes are left.
+    pub fn new(place: Place, bytes: Vec<u8>) -> Held
+        ensures { result ≡ record { place = place; left = bytes.items } }
     {
-        let bytes = text.into_vec()?;
-        Ok(Held {
+        Held {
             place,
             bytes,
             from: 0,
-        })
+        }
     }
 
     /// The place.

@@ -12,7 +12,7 @@ use crate::gone::Gone;
 use crate::held::Held;
 use crate::putting::put_left;
 use sc_edge::{Edge, Put};
-use sc_message_text::text_of;
+use sc_message_text::bytes_of;
 use sc_value::{List, Message, NoMemory, Place, Sent};
 use std::alloc::Global;
 use std::marker::Model;
@@ -101,7 +101,7 @@ impl Outs {
         if self.gone.has(place) {
             return Ok(());
         }
-        let text = text_of(alloc, message)?;
+        let text = bytes_of(alloc, message)?;
         owe_text(&mut self.outs, place, text)
     }
 
