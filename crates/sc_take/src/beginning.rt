@@ -1,9 +1,10 @@
 //! Requests that begin a session.
 
-ghost use Rattle.std.specs.Prelude.{◌≡◌, ◌+◌, ◌∷◌, ◌++◌, [], IfOk, OnOk};
+ghost use Rattle.std.specs.Prelude.{◌≡◌, ◌∷◌, [], IfOk};
 ghost use Rattle.sc_state.specs.declared.queue.Queued.{Queued};
 ghost use Rattle.sc_model.specs.Names.{tag_text};
 ghost use Rattle.sc_hosts.specs.Histories.{as_session};
+ghost use Rattle.sc_hosts.specs.Legs.{fresh};
 ghost use Rattle.sc_hosts.specs.Taking.{begun_live, take_initial, take_new};
 ghost use Rattle.sc_inboxes.specs.TakenParts.{taken_by};
 
@@ -46,10 +47,36 @@ fn first_inbox(
               request.now;
         } ∷ []) }
 {
-    let event = first_event(alloc, noted, request)?;
+    match first_event(alloc, noted, request) {
+        Ok(event) => inbox_of(alloc, Waiting { number, event }),
+        Err(NoMemory) => Err(NoMemory),
+    }
+}
+
+fn inbox_of(alloc: Global, waiting: Waiting) -> Result<Queue<Waiting>, NoMemory>
+    ensures { IfOk result (λ inbox. inbox ≡ waiting ∷ []) }
+{
     let mut inbox = Queue::new(alloc);
-    inbox.push(Waiting { number, event })?;
+    inbox.push(waiting)?;
     Ok(inbox)
+}
+
+// The session as it begins, with its first owner.
+fn begun_session(
+    alloc: Global,
+    config: &Config,
+    app: AppId,
+    epoch: u32,
+    began: u64,
+    noted: &Note,
+    request: &Request,
+) -> Result<Shared<Session>, NoMemory>
+    ensures { IfOk result (λ s. s ≡ fresh config.now app epoch began noted.now request.now) }
+{
+    match fresh(alloc, config, app, epoch, began, noted, request) {
+        Ok(session) => Shared::new(alloc, session),
+        Err(NoMemory) => Err(NoMemory),
+    }
 }
 
 #[tactic(auto, unfolding(sc_hosts::specs::Taking::begun_live, sc_hosts::specs::Histories::as_session))]
@@ -62,20 +89,24 @@ fn begun_live(
     noted: &Note,
     request: &Shared<Request>,
     number: u64,
-) -> Result<Live<Session>, NoMemory>
+) -> Result<Shared<Live<Session>>, NoMemory>
     ensures { IfOk result
         (λ l. l ≡ begun_live as_session config.now epoch app now noted.now request.now number) }
 {
-    let inbox = first_inbox(alloc, noted, request, number)?;
-    let session = fresh(alloc, config, app, epoch, now, noted, request.get())?;
-    let session = Shared::new(alloc, session)?;
-    Ok(Live {
-        serial: app.serial,
-        session,
-        inbox,
-        since: now,
-        fired: List::new(alloc),
-    })
+    let session = begun_session(alloc, config, app, epoch, now, noted, request.get())?;
+    match first_inbox(alloc, noted, request, number) {
+        Ok(inbox) => Shared::new(
+            alloc,
+            Live {
+                serial: app.serial,
+                session,
+                inbox,
+                since: now,
+                fired: List::new(alloc),
+            },
+        ),
+        Err(NoMemory) => Err(NoMemory),
+    }
 }
 
 // The tag that an application session draws as it begins.
@@ -90,19 +121,6 @@ pub(crate) fn own_tag(
     let mut text = Text::new(alloc);
     tag(alloc, config.salt.as_text(), epoch, app, 1, &mut text)?;
     Ok(text)
-}
-
-fn with_live(
-    alloc: Global,
-    live: Live<Session>,
-    serial: u64,
-    host: &mut Host<Session>,
-) -> Result<(), NoMemory>
-    ensures { OnOk result
-        (host.new ≡ record host.old { sessions = host.old.sessions ++ live ∷ []; last = serial }) }
-{
-    let live = Shared::new(alloc, live)?;
-    host.push_live(live, serial)
 }
 
 #[tactic(auto, unfolding(sc_hosts::specs::Taking::take_new, sc_hosts::specs::Inboxes::without_answer))]
@@ -135,7 +153,7 @@ fn begun(
         event,
     )?;
     let tag = own_tag(alloc, config, coming.epoch, app)?;
-    with_live(alloc, live, serial, host)?;
+    host.push_live(live, serial)?;
     with_server(alloc, app, event, coming.from, tag, request, host)?;
     with_trying(
         alloc,
