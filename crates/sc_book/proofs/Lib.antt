@@ -10,5 +10,6 @@ mod FirstLaws
 mod CountLaws
 mod RowLaws
 mod FindLaws
+mod WalkLaws
 mod KeepLaws
 pub mod Uses

@@ -136,13 +136,17 @@ pub none_there : (pairs : Pairs) (v p : ℕ) (ls : List ℕ) → length pairs �
 none_there [] v p ls none there = absurd (subst T (sym there) tt)
 none_there (x ∷ xs) v p ls none there = absurd (omega (arith, none))
 
+-- a pair of the lower number lies between it and the next one
+pub from_has : (number past p : ℕ) (pairs : BTreeSet (ℕ × ℕ)) → number < past → has_pair pairs.keys number p ≡ true → has_pair (pairs_from number past pairs) number p ≡ true
+from_has number past p pairs low there =
+    there_filter (λ q. is_le (pair_cmp (number, 0) q) && not (is_le (pair_cmp (past, 0) q))) number p pairs.keys
+    (λ q t. both (is_le (pair_cmp (number, 0) q)) (not (is_le (pair_cmp (past, 0) q))) (from_low number p q t) (to_past number p past q low t)) there
+
 pub from_more : (number past : ℕ) (pairs : BTreeSet (ℕ × ℕ)) (ks ls : List ℕ) → ls ≡ with_places ks (pairs_from number past pairs) → MorePlaces ks ls
 from_more number past pairs ks ls is = record { more = λ p there. ap (λ l. has_place l p) is ∙ kept_places p ks (pairs_from number past pairs) there }
 
 pub from_there : (number past : ℕ) (pairs : BTreeSet (ℕ × ℕ)) (ks ls : List ℕ) → ls ≡ with_places ks (pairs_from number past pairs) → number < past → (p : ℕ) → has_pair pairs.keys number p ≡ true → has_place ls p ≡ true
-from_there number past pairs ks ls is low p there = ap (λ l. has_place l p) is ∙ there_places number p ks (pairs_from number past pairs)
-    (there_filter (λ q. is_le (pair_cmp (number, 0) q) && not (is_le (pair_cmp (past, 0) q))) number p pairs.keys
-    (λ q t. both (is_le (pair_cmp (number, 0) q)) (not (is_le (pair_cmp (past, 0) q))) (from_low number p q t) (to_past number p past q low t)) there)
+from_there number past pairs ks ls is low p there = ap (λ l. has_place l p) is ∙ there_places number p ks (pairs_from number past pairs) (from_has number past p pairs low there)
 
 pub up_more : (number : ℕ) (pairs : BTreeSet (ℕ × ℕ)) (ks ls : List ℕ) → ls ≡ with_places ks (pairs_up number pairs) → MorePlaces ks ls
 up_more number pairs ks ls is = record { more = λ p there. ap (λ l. has_place l p) is ∙ kept_places p ks (pairs_up number pairs) there }

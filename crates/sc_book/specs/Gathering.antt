@@ -1,5 +1,5 @@
 -- Items that are gathered from places that have them. This project's own.
-use Rattle.std.specs.Prelude.{◌≡◌, ℕ, Bool, true, false, not, List, [], ◌∷◌, Option, IfSome, IfNone, if◌then◌else◌}
+use Rattle.std.specs.Prelude.{◌≡◌, ℕ, Bool, true, false, not, List, [], ◌∷◌, Option, IfSome, IfNone, map, if◌then◌else◌}
 use Rattle.std.specs.declared.option.Option.TheVariants.{None, Some}
 use Rattle.std.specs.declared.ops.Bound.TheVariants.{Excluded, Included, Unbounded}
 use Rattle.std.specs.List.{fold, list_any}
@@ -52,6 +52,10 @@ pairs_from low past pairs = keys_between pair_cmp (Included (low, 0)) (Excluded 
 -- all pairs of numbers from this one
 abbrev pub pairs_up : ℕ → BTreeSet (ℕ × ℕ) → List (ℕ × ℕ)
 pairs_up low pairs = keys_between pair_cmp (Included (low, 0)) Unbounded pairs
+
+-- the places of pairs, in the order of the pairs
+abbrev pub places_in : List (ℕ × ℕ) → List ℕ
+places_in pairs = map (λ pair. pair.1) pairs
 
 -- ## Which items
 

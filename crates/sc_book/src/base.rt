@@ -1,4 +1,4 @@
-ghost use Rattle.std.specs.Prelude.{◌≡◌, [], Some, OnOk, OnErr, true};
+ghost use Rattle.std.specs.Prelude.{◌≡◌, ◌<◌, [], Some, OnOk, OnErr, true};
 ghost use Rattle.std.specs.List.Sorted.{IsStrictlySortedBy};
 ghost use Rattle.std.specs.Option.{option_copied, option_map};
 ghost use Rattle.std.specs.Ordering.{nat_cmp};
@@ -7,15 +7,16 @@ ghost use Rattle.std.specs.FinMap.Entries.{is_sorted};
 ghost use Rattle.sc_book.specs.Places.{at_place, with_item, without_item};
 ghost use Rattle.sc_book.specs.Words.{belongs, is_before};
 ghost use Rattle.sc_book.specs.Found.{numbers_of, AreFound, HasNumbers, AllGrown, AllKeptBut};
-ghost use Rattle.sc_book.specs.Gathering.{Covers, MorePlaces};
+ghost use Rattle.sc_book.specs.Gathering.{Covers, IsFirst, MorePlaces};
 ghost use Rattle.sc_book.specs.Firsts.{free_of, earliest_at};
 
-use crate::Item;
 use crate::entry::Entry;
 use crate::firsts::first_in;
 use crate::indexes::Indexes;
 use crate::keys::add_keys;
 use crate::numbers::Numbers;
+use crate::walking::first_in_group;
+use crate::{Item, Probe};
 use sc_value::NoMemory;
 use std::alloc::Global;
 use std::collections::{BTreeMap, BTreeSet};
@@ -108,6 +109,16 @@ impl<T: Item> Base<T> {
         ensures { OnOk result (Covers (λ x. is_before moment (T.due x)) self.now places.new.keys) }
     {
         self.indexes.dues.places_below(moment, places)
+    }
+
+    /// The place of the first item of a group that passes. All that pass are of the group, and it
+    /// isn't that of the greatest number.
+    pub fn first_of<P: Probe<T>>(&self, group: u64, probe: &P) -> Option<u64>
+        requires own { (x : T) → P.passes probe.now x ≡ true → belongs T.groups group x ≡ true }
+        requires below { group < u64.MAX }
+        ensures { IsFirst (P.passes probe.now) self.now result }
+    {
+        first_in_group(&self.items, &self.indexes.groups, group, probe)
     }
 
     /// The lowest number of a first event of the items at other places, with the first place of an

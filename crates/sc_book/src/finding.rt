@@ -1,6 +1,6 @@
 //! The first item of a book that passes a test.
 
-ghost use Rattle.std.specs.Prelude.{◌≡◌, true, IfOk};
+ghost use Rattle.std.specs.Prelude.{◌≡◌, ◌<◌, true, IfOk};
 ghost use Rattle.std.specs.List.{find};
 ghost use Rattle.std.specs.List.Sorted.{IsStrictlySortedBy};
 ghost use Rattle.std.specs.Map.{values_of};
@@ -37,6 +37,40 @@ impl<T: Item> Book<T> {
 
     /// The place of the first item that passes. All that pass are of the group.
     pub fn first_place<P: Probe<T>>(
+        &self,
+        alloc: Global,
+        group: u64,
+        probe: &P,
+    ) -> Result<Option<u64>, NoMemory>
+        requires { (x : T) → P.passes probe.now x ≡ true → belongs T.groups group x ≡ true }
+        ensures { IfOk result (λ place. IsFirst (P.passes probe.now) self.now place) }
+    {
+        if self.is_settled() && group != u64::MAX {
+            return self.first_settled(group, probe);
+        }
+        self.first_gathered(alloc, group, probe)
+    }
+
+    // Whether no changes lie over the base.
+    fn is_settled(&self) -> bool {
+        self.changes.is_empty() && self.base.is_bare()
+    }
+
+    // The same, where no changes lie over the base; `NoMemory` where some do.
+    fn first_settled<P: Probe<T>>(&self, group: u64, probe: &P) -> Result<Option<u64>, NoMemory>
+        requires own { (x : T) → P.passes probe.now x ≡ true → belongs T.groups group x ≡ true }
+        requires below { group < u64.MAX }
+        ensures { IfOk result (λ place. IsFirst (P.passes probe.now) self.now place) }
+    {
+        if !self.changes.is_empty() {
+            return Err(NoMemory);
+        }
+        let place = self.base.first_of(group, probe)?;
+        Ok(place)
+    }
+
+    // The same, among the places that base and changes may have.
+    fn first_gathered<P: Probe<T>>(
         &self,
         alloc: Global,
         group: u64,

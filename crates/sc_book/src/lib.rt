@@ -29,6 +29,7 @@ mod settling;
 mod shared_base;
 mod top;
 mod topped;
+mod walking;
 mod wanted;
 
 pub use item::{Item, Keyed};

@@ -1,19 +1,19 @@
-ghost use Rattle.std.specs.Prelude.{◌≡◌, [], OnOk, true};
+ghost use Rattle.std.specs.Prelude.{◌≡◌, ◌<◌, [], OnOk, true};
 ghost use Rattle.std.specs.Option.{option_copied};
 ghost use Rattle.std.specs.Ordering.{nat_cmp};
 ghost use Rattle.std.specs.FinMap.Entries.{is_sorted};
 ghost use Rattle.sc_book.specs.Places.{all_laid, at_place};
 ghost use Rattle.sc_book.specs.Words.{belongs, is_before};
-ghost use Rattle.sc_book.specs.Gathering.{Covers, MorePlaces};
+ghost use Rattle.sc_book.specs.Gathering.{Covers, IsFirst, MorePlaces};
 ghost use Rattle.sc_book.specs.Groups.{KeepsBook};
 ghost use Rattle.sc_book.specs.Firsts.{free_of, earliest_at};
 ghost use Rattle.sc_book.specs.Tops.{topped};
 
-use crate::Item;
 use crate::base::Base;
 use crate::entry::Entry;
 use crate::settling::{settle_in, settle_top_in};
 use crate::top::Top;
+use crate::{Item, Probe};
 use sc_value::{CloneIn, NoMemory};
 use std::alloc::Global;
 use std::collections::{BTreeMap, BTreeSet};
@@ -60,6 +60,20 @@ impl<T: Item> SharedBase<T> {
     {
         match &self.base {
             Some(base) => base.get(place),
+            None => None,
+        }
+    }
+
+    /// The place of the first item of a group that passes. All that pass are of the group, and it
+    /// isn't that of the greatest number.
+    #[tactic(auto, using(crate::proofs::WalkLaws::first_nowhere))]
+    pub fn first_of<P: Probe<T>>(&self, group: u64, probe: &P) -> Option<u64>
+        requires own { (x : T) → P.passes probe.now x ≡ true → belongs T.groups group x ≡ true }
+        requires below { group < u64.MAX }
+        ensures { IsFirst (P.passes probe.now) self.now result }
+    {
+        match &self.base {
+            Some(base) => base.first_of(group, probe),
             None => None,
         }
     }

@@ -1,16 +1,16 @@
-ghost use Rattle.std.specs.Prelude.{◌≡◌, [], OnOk, OnErr, IfOk, true};
+ghost use Rattle.std.specs.Prelude.{◌≡◌, ◌<◌, [], OnOk, OnErr, IfOk, true};
 ghost use Rattle.std.specs.Option.{option_copied};
 ghost use Rattle.sc_book.specs.Places.{Placed, all_laid, at_place, with_item_at};
 ghost use Rattle.sc_book.specs.Words.{belongs, is_before};
-ghost use Rattle.sc_book.specs.Gathering.{Covers, MorePlaces};
+ghost use Rattle.sc_book.specs.Gathering.{Covers, IsFirst, MorePlaces};
 ghost use Rattle.sc_book.specs.Groups.{KeepsBook};
 ghost use Rattle.sc_book.specs.Firsts.{free_of, earliest_at};
 ghost use Rattle.sc_book.specs.Tops.{topped};
 
-use crate::Item;
 use crate::entry::Entry;
 use crate::shared_base::SharedBase;
 use crate::top::{Top, add_place, found_under};
+use crate::{Item, Probe};
 use sc_value::{CloneIn, NoMemory};
 use std::alloc::Global;
 use std::collections::{BTreeMap, BTreeSet};
@@ -95,6 +95,19 @@ impl<T: Item> Topped<T> {
             }
         }
         Ok(())
+    }
+
+    /// The place of the first item of a group that passes. All that pass are of the group, and it
+    /// isn't that of the greatest number. `NoMemory` where a change lies over the base.
+    pub fn first_of<P: Probe<T>>(&self, group: u64, probe: &P) -> Result<Option<u64>, NoMemory>
+        requires own { (x : T) → P.passes probe.now x ≡ true → belongs T.groups group x ≡ true }
+        requires below { group < u64.MAX }
+        ensures { IfOk result (λ place. IsFirst (P.passes probe.now) self.now place) }
+    {
+        match &self.top {
+            Some(_) => Err(NoMemory),
+            None => Ok(self.base.first_of(group, probe)),
+        }
     }
 
     /// Adds the places of all items.
