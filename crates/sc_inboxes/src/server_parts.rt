@@ -9,12 +9,12 @@ ghost use Rattle.sc_hosts.specs.Transacting.{is_server};
 ghost use Rattle.sc_hosts.specs.Words.{trying};
 ghost use Rattle.sc_inboxes.specs.TakenParts.{taken_by};
 
-use crate::told::{Told, answering};
+use crate::told::{Told, replying};
 use sc_messages::trying_response;
 use sc_parts::ServerItem;
 use sc_state::{Host, Peer, Server, ServerPast, Session};
 use sc_transact::{is_ack, is_invite};
-use sc_value::{AppId, CloneIn, NoMemory, Request, Response, Shared, Text};
+use sc_value::{AppId, CloneIn, Message, NoMemory, Request, Response, Shared, Text};
 use std::alloc::Global;
 
 fn new_server(
@@ -72,23 +72,30 @@ pub fn with_server(
     host.push_server(server)
 }
 
+// The 100 that answers a request, with its first owner.
 #[tactic(auto, unfolding(sc_hosts::specs::Words::trying))]
-fn trying(alloc: Global, request: &Request) -> Result<Response, NoMemory>
+fn trying(alloc: Global, request: &Request) -> Result<Shared<Response>, NoMemory>
     ensures { IfOk result (λ r. r ≡ trying_response trying request.now) }
 {
-    trying_response(alloc, b"Trying", request)
+    match trying_response(alloc, b"Trying", request) {
+        Ok(response) => Shared::new(alloc, response),
+        Err(NoMemory) => Err(NoMemory),
+    }
 }
 
+// The transaction of this request with the 100 that was made for it.
 #[tactic(auto, unfolding(sc_hosts::specs::Taking::server_after_trying))]
 fn tried(
     alloc: Global,
-    request: &Request,
+    _request: &Request,
+    response: &Shared<Response>,
     now: u64,
     server: &Server,
 ) -> Result<Shared<Server>, NoMemory>
-    ensures { IfOk result (λ own. own ≡ server_after_trying request.now now server.now) }
+    requires { response.now ≡ trying_response trying _request.now }
+    ensures { IfOk result (λ own. own ≡ server_after_trying _request.now now server.now) }
 {
-    let last = Shared::new(alloc, trying(alloc, request)?)?;
+    let last = response.clone_in(alloc)?;
     let mut own = server.clone_in(alloc)?;
     own.last = Some(last);
     own.passed.take(ServerItem::AnswerGiven {
@@ -103,9 +110,11 @@ fn try_in(
     alloc: Global,
     event: u64,
     request: &Request,
+    response: &Shared<Response>,
     now: u64,
     host: &mut Host<Session>,
 ) -> Result<(), NoMemory>
+    requires { response.now ≡ trying_response trying request.now }
     ensures { OnOk result
         (host.new
         ≡ record host.old {
@@ -113,7 +122,7 @@ fn try_in(
         }) }
 {
     let own = match host.server(event) {
-        Some(server) => tried(alloc, request, now, server.get())?,
+        Some(server) => tried(alloc, request, response, now, server.get())?,
         None => return Ok(()),
     };
     host.set_server(own)
@@ -135,7 +144,7 @@ pub fn with_trying(
     if !is_invite(request) {
         return Ok(told);
     }
-    try_in(alloc, told.count, request, now, host)?;
     let response = trying(alloc, request)?;
-    answering(alloc, from, response, told)
+    try_in(alloc, told.count, request, &response, now, host)?;
+    Ok(replying(from, Message::Response(response), told))
 }
