@@ -6,11 +6,16 @@ use sc_state::{Entry, Host, Net, Session};
 use sc_value::{CloneIn, List, NoMemory};
 use std::alloc::Global;
 
-/// A copy of a net, with nothing sent.
-pub fn copy_net(alloc: Global, net: &Net<Session>) -> Result<Net<Session>, NoMemory>
+/// A copy of a net, with nothing sent. Its list of hosts takes the memory of an empty one.
+pub fn copy_net(
+    alloc: Global,
+    net: &Net<Session>,
+    room: List<Host<Session>>,
+) -> Result<Net<Session>, NoMemory>
+    requires { room ≡ [] }
     ensures { IfOk result (λ copy. copy ≡ record net.now { sent = [] }) }
 {
-    let hosts = copy_hosts(alloc, net.hosts.as_slice())?;
+    let hosts = copy_hosts(alloc, net.hosts.as_slice(), room)?;
     let wire = copy_wire(alloc, net.wire.as_slice())?;
     Ok(Net {
         hosts,
@@ -22,12 +27,16 @@ pub fn copy_net(alloc: Global, net: &Net<Session>) -> Result<Net<Session>, NoMem
     })
 }
 
-fn copy_hosts(alloc: Global, hosts: &[Host<Session>]) -> Result<List<Host<Session>>, NoMemory>
+fn copy_hosts(
+    alloc: Global,
+    hosts: &[Host<Session>],
+    room: List<Host<Session>>,
+) -> Result<List<Host<Session>>, NoMemory>
+    requires { room ≡ [] }
     ensures { IfOk result (λ copies. copies ≡ hosts.now) }
 {
-    let mut copies = List {
-        items: Vec::with_capacity(alloc, hosts.len())?,
-    };
+    let mut copies = room;
+    copies.items.reserve_exact(hosts.len())?;
     add_hosts(alloc, hosts, &mut copies)?;
     Ok(copies)
 }

@@ -8,7 +8,7 @@ ghost use Rattle.sc_switch.specs.Beginnings.{BeginsAnyhow};
 use crate::starting::quiet_net;
 use sc_state::{Host, Net, Prepared, Session};
 use sc_steps::live_at;
-use sc_value::{AppId, Boxed};
+use sc_value::{AppId, Boxed, List};
 use std::alloc::Global;
 use std::marker::Model;
 use std::mem::replace;
@@ -28,6 +28,9 @@ pub struct Begun {
 pub struct Readied {
     net: Net<Session>,
     begun: Option<Begun>,
+    /// The list of the hosts that there were before, without them: the next copy of the net takes
+    /// its memory.
+    room: List<Host<Session>>,
 }
 
 impl Model for Readied {
@@ -45,10 +48,14 @@ impl Model for Readied {
 impl Readied {
     /// A net in which no turn has begun.
     #[tactic(auto, unfolding(crate::specs::Beginnings::IsBegun))]
-    pub fn new(net: Net<Session>) -> Readied
+    pub fn new(alloc: Global, net: Net<Session>) -> Readied
         ensures { result ≡ net }
     {
-        Readied { net, begun: None }
+        Readied {
+            net,
+            begun: None,
+            room: List::new(alloc),
+        }
     }
 
     /// The net.
@@ -88,6 +95,14 @@ impl Readied {
         }
     }
 
+    /// Hands out an empty list, which may have memory for hosts.
+    pub fn room(&mut self, alloc: Global) -> List<Host<Session>>
+        ensures empty { result ≡ [] }
+        ensures same { self.new ≡ self.old }
+    {
+        emptied(replace(&mut self.room, List::new(alloc)))
+    }
+
     /// Another net takes the place of this one. What a step changed goes where a look-up costs
     /// least, as nobody else holds it now.
     #[tactic(auto, unfolding(crate::specs::Beginnings::IsBegun))]
@@ -95,6 +110,8 @@ impl Readied {
         ensures { self.new ≡ next }
     {
         self.begun = None;
+        let hosts = replace(&mut self.net.hosts, List::new(alloc));
+        self.room = emptied(hosts);
         self.net = next;
         settle_all(alloc, &mut self.net.hosts.items);
     }
@@ -127,6 +144,15 @@ fn shown_of(app: AppId, now: u64, begun: Begun) -> Option<Boxed<Prepared>>
     }
     let Begun { shown, .. } = begun;
     Some(shown)
+}
+
+// The list without its hosts, which keeps its memory.
+fn emptied(hosts: List<Host<Session>>) -> List<Host<Session>>
+    ensures { result ≡ [] }
+{
+    let mut hosts = hosts;
+    hosts.items.clear();
+    hosts
 }
 
 fn settle_all(alloc: Global, hosts: &mut [Host<Session>])

@@ -102,7 +102,8 @@ fn next_net(
         (λ next. next ≡ after_step as_session setup.now net.old (taken_step taken.now)) }
     ensures same { net.new ≡ net.old }
 {
-    let mut next = copy_net(alloc, net.get())?;
+    let room = net.room(alloc);
+    let mut next = copy_net(alloc, net.get(), room)?;
     match change(alloc, setup, net, taken, &mut next) {
         Ok(()) => Ok(next),
         Err(NoMemory) => {

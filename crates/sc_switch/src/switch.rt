@@ -708,7 +708,7 @@ fn switch_of(alloc: Global, setup: Setup) -> Result<Switch, NoMemory>
             handed: Handed::new(),
             before: 0,
             journal,
-            net: Readied::new(net),
+            net: Readied::new(alloc, net),
             live: 0,
             waiting: 0,
             left: VecDeque::new(alloc),
