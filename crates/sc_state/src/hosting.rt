@@ -649,9 +649,10 @@ fn lists_copied<S: Timed>(
 ) -> Result<Arc<HostLists<S>>, NoMemory>
     ensures { IfOk result (λ own. arc_value own ≡ lists.now) }
 {
-    let own = lists.clone_in(alloc)?;
-    let own = Arc::new(alloc, own)?;
-    Ok(own)
+    match lists.clone_in(alloc) {
+        Ok(own) => Ok(Arc::new(alloc, own)?),
+        Err(NoMemory) => Err(NoMemory),
+    }
 }
 
 // Settles lists that nobody else has.
