@@ -27,7 +27,9 @@ pub enum Judged {
     Other,
 }
 
-/// Judges a brought turn by the live leases.
+/// Judges a brought turn by the live leases. It looks at all parts of the turn, so that it stands
+/// apart from what takes the turn.
+#[inline(never)]
 #[tactic(auto, unfolding(crate::specs::Offering::Judges, crate::specs::Standing::is_live_lease))]
 pub fn judge(setup: &Setup, kept: &[Lease], done: &Done) -> Judged
     ensures { Judges setup.now kept.now done.now result }
