@@ -1,0 +1,5 @@
+pub mod Filled
+pub mod Outlines
+pub mod Runs
+pub mod Scopes
+pub mod Spots
