@@ -1,4 +1,5 @@
 pub mod Beside
 pub mod Busy
+pub mod Paged
 pub mod Starts
 pub mod Still

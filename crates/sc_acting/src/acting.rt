@@ -137,8 +137,7 @@ fn acted(
     let chosen = proxy_now(alloc, proxy, working)?;
     sends_cancels(alloc, proxy, working)?;
     closes(&chosen, working);
-    rest(&mut working.known, proxy.req);
-    Ok(())
+    rest(&mut working.known, proxy.req)
 }
 
 #[tactic(auto, unfolding(sc_hosts::specs::Acting::acts))]

@@ -1,16 +1,15 @@
 //! Changes of one proxied request of an application session.
 
 ghost use Rattle.std.specs.Prelude.{◌≡◌, ◌∷◌, [], IfOk, OnOk, map};
-ghost use Rattle.sc_value.specs.Lists.{change_first};
-ghost use Rattle.sc_hosts.specs.Looking.{same_request};
 ghost use Rattle.sc_hosts.specs.PreparingResponses.{change_proxy};
 ghost use Rattle.sc_hosts.specs.Preparing.{proxy_of};
 ghost use Rattle.sc_hosts.specs.Giving.{giving};
 ghost use Rattle.sc_hosts.specs.Acting.{at_rest, proxy_now, rested_branch, with_forwarded, with_next_branch};
 ghost use Rattle.sc_acting.specs.Acts.{with_new_branch};
 
-use sc_effects::{proxy_of, proxy_place};
+use sc_effects::{ProxyNumbered, proxy_of};
 use sc_methods::is_final;
+use sc_pages::{Change, Scope};
 use sc_state::{Branch, Known, Order, Proxy, Working};
 use sc_terms::View;
 use sc_value::{CloneIn, NoMemory, ReqId, sum};
@@ -43,15 +42,17 @@ fn branched(proxy: &mut Proxy, branch: Branch) -> Result<(), NoMemory>
     Ok(())
 }
 
-#[tactic(auto, using(sc_value::proofs::ListFacts::change_first_position, sc_value::proofs::ListFacts::change_first_none))]
-fn branched_in(proxies: &mut [Proxy], req: ReqId, branch: Branch) -> Result<(), NoMemory>
-    ensures { OnOk result
-        (proxies.new
-        ≡ change_first (λ proxy. same_request proxy.req req) (with_new_branch branch) proxies.old) }
-{
-    match proxy_place(proxies, req) {
-        Some(at) => branched(&mut proxies[at], branch),
-        None => Ok(()),
+// A branch more of a proxied request.
+#[derive(Clone, Copy)]
+struct OneBranchMore {
+    branch: Branch,
+}
+
+impl Change<Proxy> for OneBranchMore {
+    ghost changed = { λ p. with_new_branch p.branch };
+
+    fn change(&self, proxy: &mut Proxy) -> Result<(), NoMemory> {
+        branched(proxy, self.branch)
     }
 }
 
@@ -59,7 +60,10 @@ fn branched_in(proxies: &mut [Proxy], req: ReqId, branch: Branch) -> Result<(), 
 pub fn with_branch(known: &mut Known, req: ReqId, branch: Branch) -> Result<(), NoMemory>
     ensures { OnOk result (known.new ≡ change_proxy req (with_new_branch branch) known.old) }
 {
-    branched_in(&mut known.proxies.items, req, branch)
+    let numbered = ProxyNumbered { req };
+    known
+        .proxies
+        .change_first(Scope::Number(req.0), &numbered, &OneBranchMore { branch })
 }
 
 #[tactic(auto, unfolding(sc_hosts::specs::Acting::with_forwarded))]
@@ -71,22 +75,29 @@ fn with_forwarded(proxy: &mut Proxy, code: u16)
     }
 }
 
-#[tactic(auto, using(sc_value::proofs::ListFacts::change_first_position, sc_value::proofs::ListFacts::change_first_none))]
-fn forwarded_in(proxies: &mut [Proxy], req: ReqId, code: u16)
-    ensures { proxies.new
-        ≡ change_first (λ proxy. same_request proxy.req req) (with_forwarded code) proxies.old }
-{
-    match proxy_place(proxies, req) {
-        Some(at) => with_forwarded(&mut proxies[at], code),
-        None => {}
+// A response of this code that was forwarded.
+#[derive(Clone, Copy)]
+struct Forwarded {
+    code: u16,
+}
+
+impl Change<Proxy> for Forwarded {
+    ghost changed = { λ p. with_forwarded p.code };
+
+    fn change(&self, proxy: &mut Proxy) -> Result<(), NoMemory> {
+        with_forwarded(proxy, self.code);
+        Ok(())
     }
 }
 
 /// A response of this code was forwarded: the first final code is kept.
-pub fn note_forwarded(known: &mut Known, req: ReqId, code: u16)
-    ensures { known.new ≡ change_proxy req (with_forwarded code) known.old }
+pub fn note_forwarded(known: &mut Known, req: ReqId, code: u16) -> Result<(), NoMemory>
+    ensures { OnOk result (known.new ≡ change_proxy req (with_forwarded code) known.old) }
 {
-    forwarded_in(&mut known.proxies.items, req, code);
+    let numbered = ProxyNumbered { req };
+    known
+        .proxies
+        .change_first(Scope::Number(req.0), &numbered, &Forwarded { code })
 }
 
 #[tactic(auto, unfolding(sc_hosts::specs::Acting::rested_branch))]
@@ -113,21 +124,27 @@ fn rested(proxy: &mut Proxy)
     proxy.heard_final = false;
 }
 
-#[tactic(auto, using(sc_value::proofs::ListFacts::change_first_position, sc_value::proofs::ListFacts::change_first_none))]
-fn rested_in(proxies: &mut [Proxy], req: ReqId)
-    ensures { proxies.new ≡ change_first (λ proxy. same_request proxy.req req) at_rest proxies.old }
-{
-    match proxy_place(proxies, req) {
-        Some(at) => rested(&mut proxies[at]),
-        None => {}
+// A proxied request that has done what the turn made it do.
+#[derive(Clone, Copy)]
+struct AtRest;
+
+impl Change<Proxy> for AtRest {
+    ghost changed = { λ _. at_rest };
+
+    fn change(&self, proxy: &mut Proxy) -> Result<(), NoMemory> {
+        rested(proxy);
+        Ok(())
     }
 }
 
 /// A proxied request has done what this turn made it do.
-pub fn rest(known: &mut Known, req: ReqId)
-    ensures { known.new ≡ change_proxy req at_rest known.old }
+pub fn rest(known: &mut Known, req: ReqId) -> Result<(), NoMemory>
+    ensures { OnOk result (known.new ≡ change_proxy req at_rest known.old) }
 {
-    rested_in(&mut known.proxies.items, req);
+    let numbered = ProxyNumbered { req };
+    known
+        .proxies
+        .change_first(Scope::Number(req.0), &numbered, &AtRest)
 }
 
 /// The proxied request as it is now.

@@ -50,16 +50,20 @@ fn forwarded_view(
     sess: SessId,
     request: &Option<RequestView>,
     response: &Response,
-)
-    ensures { view.new ≡ forwarded_view proxy.now sess request.now response.now view.old }
+) -> Result<(), NoMemory>
+    ensures { OnOk result
+        (view.new ≡ forwarded_view proxy.now sess request.now response.now view.old) }
 {
     match request {
         Some(request) => {
             let tagged = tag(&response.head.to).is_some();
-            answered_in(view, sess, request, tagged, response.code);
-            tidy(view);
+            answered_in(view, sess, request, tagged, response.code)?;
+            tidy(view)
         }
-        None => move_in(&mut view.sessions.items, sess, proxy, response),
+        None => {
+            move_in(&mut view.sessions.items, sess, proxy, response);
+            Ok(())
+        }
     }
 }
 
@@ -143,7 +147,7 @@ fn forwards(
         sess,
         &request,
         response.get(),
-    );
+    )?;
     let owner = response.clone_in(alloc)?;
     give(
         working,
@@ -152,8 +156,7 @@ fn forwards(
             response: owner,
         },
     )?;
-    note_forwarded(&mut working.known, proxy.req, response.get().code);
-    Ok(())
+    note_forwarded(&mut working.known, proxy.req, response.get().code)
 }
 
 /// What waits to be forwarded goes, where it can.

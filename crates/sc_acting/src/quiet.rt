@@ -2,10 +2,11 @@
 //! they stay as they are.
 
 ghost use Rattle.std.specs.Prelude.{◌≡◌, ◌++◌, filter, IfOk, OnOk};
-ghost use Rattle.std.specs.List.{fold, list_all};
+ghost use Rattle.std.specs.List.{flat_map, fold, list_all};
 ghost use Rattle.sc_acting.specs.Quiet.{acting, climbs, is_at_rest, is_busy, is_quiet, are_rising};
 
 use sc_branches::can_choose;
+use sc_pages::{Page, Pages};
 use sc_state::{Branch, Proxy};
 use sc_value::{CloneIn, List, NoMemory};
 use std::alloc::Global;
@@ -33,15 +34,25 @@ fn all_climb(climb: &mut Climb, proxies: &[Proxy])
     }
 }
 
-#[tactic(auto, unfolding(crate::specs::Quiet::are_rising))]
-fn are_rising(proxies: &[Proxy]) -> bool
+fn pages_climb(climb: &mut Climb, pages: &[Page<Proxy>])
+    ensures { climb.new ≡ fold (λ climb page. fold climbs climb page) climb.old pages.now }
+{
+    for page in pages {
+        all_climb(climb, page.items());
+    }
+}
+
+#[tactic(auto, unfolding(crate::specs::Quiet::are_rising), using(sc_pages::proofs::PagesLaws::fold_parts))]
+fn are_rising(proxies: &Pages<Proxy>) -> bool
     ensures { result ≡ are_rising proxies.now }
 {
     let mut climb = Climb {
         rising: true,
         last: 0,
     };
-    all_climb(&mut climb, proxies);
+    let (pages, newest) = proxies.parts();
+    pages_climb(&mut climb, pages);
+    all_climb(&mut climb, newest);
     climb.rising
 }
 
@@ -77,21 +88,47 @@ fn add_busy(alloc: Global, busy: &mut List<Proxy>, proxies: &[Proxy]) -> Result<
     Ok(())
 }
 
-fn busy_of(alloc: Global, proxies: &[Proxy]) -> Result<List<Proxy>, NoMemory>
+#[tactic(auto, using(crate::proofs::Paged::none_busy))]
+fn add_busy_page(alloc: Global, busy: &mut List<Proxy>, page: &Page<Proxy>) -> Result<(), NoMemory>
+    ensures { OnOk result (busy.new ≡ busy.old ++ filter is_busy page.now) }
+{
+    if page.rests() {
+        return Ok(());
+    }
+    add_busy(alloc, busy, page.items())
+}
+
+fn add_busy_pages(
+    alloc: Global,
+    busy: &mut List<Proxy>,
+    pages: &[Page<Proxy>],
+) -> Result<(), NoMemory>
+    ensures { OnOk result (busy.new ≡ busy.old ++ flat_map (λ page. filter is_busy page) pages.now) }
+{
+    for page in pages {
+        add_busy_page(alloc, busy, page)?;
+    }
+    Ok(())
+}
+
+#[tactic(auto, using(sc_pages::proofs::PagesLaws::filter_parts))]
+fn busy_of(alloc: Global, proxies: &Pages<Proxy>) -> Result<List<Proxy>, NoMemory>
     ensures { IfOk result (λ busy. busy ≡ filter is_busy proxies.now) }
 {
     let mut busy = List::new(alloc);
-    add_busy(alloc, &mut busy, proxies)?;
+    let (pages, newest) = proxies.parts();
+    add_busy_pages(alloc, &mut busy, pages)?;
+    add_busy(alloc, &mut busy, newest)?;
     Ok(busy)
 }
 
 /// The proxied requests that have something to do; where their numbers don't rise, all of them.
 #[tactic(auto, unfolding(crate::specs::Quiet::acting))]
-pub fn acting(alloc: Global, proxies: &List<Proxy>) -> Result<List<Proxy>, NoMemory>
+pub fn acting(alloc: Global, proxies: &Pages<Proxy>) -> Result<List<Proxy>, NoMemory>
     ensures { IfOk result (λ some. some ≡ acting proxies.now) }
 {
-    if are_rising(proxies.as_slice()) {
-        return busy_of(alloc, proxies.as_slice());
+    if are_rising(proxies) {
+        return busy_of(alloc, proxies);
     }
-    proxies.clone_in(alloc)
+    proxies.to_list()
 }

@@ -1,8 +1,7 @@
 //! A CANCEL passes from one leg to the other.
 
-ghost use Rattle.std.specs.Prelude.{◌≡◌, ◌<◌, [], false, option_map, position, OnOk};
+ghost use Rattle.std.specs.Prelude.{◌≡◌, ◌<◌, [], false, option_map, OnOk};
 ghost use Rattle.std.specs.List.{find};
-ghost use Rattle.std.specs.Option.{option_copied};
 ghost use Rattle.sc_hosts.specs.Scripting.{only, where_some};
 ghost use Rattle.sc_hosts.specs.Charters.{sent_initial};
 ghost use Rattle.sc_hosts.specs.Looking.{partner};
@@ -13,25 +12,22 @@ ghost use Rattle.sc_apps.specs.Scripted.{IsPlayed, is_first_of};
 use crate::calling::cancel;
 use crate::reading::shown;
 use sc_looking::partner;
+use sc_pages::{Probe, Scope};
 use sc_terms::{Call, RequestView, View};
 use sc_turn::Turn;
 use sc_value::{NoMemory, ReqId, SessId};
 
-fn first_place(requests: &[RequestView], sess: SessId) -> Option<usize>
-    ensures { result ≡ position (is_first_of sess) requests.now }
-{
-    requests.iter().position(|request| request.initial
-        && !request.received
-        && request.sess.0 == sess.0)
+// Whether a request is the first that was sent in this SipSession.
+#[derive(Clone, Copy)]
+struct FirstOf {
+    sess: SessId,
 }
 
-#[tactic(auto, using(sc_value::proofs::ListFacts::find_position, sc_value::proofs::ListFacts::find_none))]
-fn first_among(requests: &[RequestView], sess: SessId) -> Option<&RequestView>
-    ensures { option_copied result ≡ find (is_first_of sess) requests.now }
-{
-    match first_place(requests, sess) {
-        Some(at) => Some(&requests[at]),
-        None => None,
+impl Probe<RequestView> for FirstOf {
+    ghost passes = { λ p. is_first_of p.sess };
+
+    fn passes(&self, request: &RequestView) -> bool {
+        request.initial && !request.received && request.sess.0 == self.sess.0
     }
 }
 
@@ -40,7 +36,7 @@ fn first_among(requests: &[RequestView], sess: SessId) -> Option<&RequestView>
 fn sent_initial(view: &View, sess: SessId) -> Option<ReqId>
     ensures { result ≡ option_map (λ request. request.id) (sent_initial view.entry.now sess) }
 {
-    match first_among(view.requests.as_slice(), sess) {
+    match view.requests.find(Scope::Busy, &FirstOf { sess }) {
         Some(request) => Some(request.id),
         None => None,
     }

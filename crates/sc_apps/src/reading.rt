@@ -15,7 +15,7 @@ use std::alloc::Global;
 
 /// Where a turn takes its memory.
 pub fn memory_of(t: &Turn) -> Global {
-    *t.view().requests.items.allocator()
+    *t.view().sessions.items.allocator()
 }
 
 /// What a turn shows that has made no call yet.

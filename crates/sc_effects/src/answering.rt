@@ -8,8 +8,9 @@ ghost use Rattle.sc_hosts.specs.ViewChanges.{answered_in, view_with_answer, with
 
 use crate::states::after_response;
 use crate::tidying::tidy;
-use sc_looking::{begun_by, request_in, request_place, session_place};
+use sc_looking::{Numbered, begun_by, request_in, session_place};
 use sc_methods::is_final;
+use sc_pages::{Change, Pages, Scope};
 use sc_terms::{RequestView, SessionView, View};
 use sc_value::{CloneIn, NoMemory, ReqId, SessId};
 use std::alloc::Global;
@@ -23,14 +24,34 @@ fn with_answer(request: &mut RequestView, code: u16)
     }
 }
 
-#[tactic(auto, using(sc_value::proofs::ListFacts::change_first_position, sc_value::proofs::ListFacts::change_first_none))]
-pub(crate) fn answer_in(requests: &mut [RequestView], req: ReqId, code: u16)
-    ensures { requests.new ≡ change_first (is_request req) (with_answer code) requests.old }
-{
-    match request_place(requests, req) {
-        Some(at) => with_answer(&mut requests[at], code),
-        None => {}
+// An answer of this code.
+#[derive(Clone, Copy)]
+struct AnswerNoted {
+    code: u16,
+}
+
+impl Change<RequestView> for AnswerNoted {
+    ghost changed = { λ p. with_answer p.code };
+
+    fn change(&self, request: &mut RequestView) -> Result<(), NoMemory> {
+        with_answer(request, self.code);
+        Ok(())
     }
+}
+
+pub(crate) fn answer_in(
+    requests: &mut Pages<RequestView>,
+    req: ReqId,
+    code: u16,
+) -> Result<(), NoMemory>
+    ensures { OnOk result
+        (requests.new ≡ change_first (is_request req) (with_answer code) requests.old) }
+{
+    requests.change_first(
+        Scope::Number(req.0),
+        &Numbered { req },
+        &AnswerNoted { code },
+    )
 }
 
 #[tactic(auto, unfolding(sc_hosts::specs::ViewChanges::with_response))]
@@ -60,29 +81,36 @@ fn response_in(
 /// Notes a response of this code to a request, sent, handled or forwarded in a SipSession: on the
 /// request, where the first final code stays, and in the state of the SipSession.
 #[tactic(auto, unfolding(sc_hosts::specs::ViewChanges::answered_in))]
-pub fn answered_in(view: &mut View, sess: SessId, request: &RequestView, tagged: bool, code: u16)
-    ensures { view.new ≡ answered_in sess request.now tagged code view.old }
+pub fn answered_in(
+    view: &mut View,
+    sess: SessId,
+    request: &RequestView,
+    tagged: bool,
+    code: u16,
+) -> Result<(), NoMemory>
+    ensures { OnOk result (view.new ≡ answered_in sess request.now tagged code view.old) }
 {
-    answer_in(&mut view.requests.items, request.id, code);
+    answer_in(&mut view.requests, request.id, code)?;
     response_in(&mut view.sessions.items, sess, request, tagged, code);
+    Ok(())
 }
 
 /// Notes an answer of this code that the application or the container gave to a request.
 #[tactic(auto, unfolding(sc_hosts::specs::ViewChanges::view_with_answer))]
-pub fn answered(view: &mut View, request: &RequestView, code: u16)
-    ensures { view.new ≡ view_with_answer (Some request.now) code view.old }
+pub fn answered(view: &mut View, request: &RequestView, code: u16) -> Result<(), NoMemory>
+    ensures { OnOk result (view.new ≡ view_with_answer (Some request.now) code view.old) }
 {
-    answered_in(view, request.sess, request, true, code);
-    tidy(view);
+    answered_in(view, request.sess, request, true, code)?;
+    tidy(view)
 }
 
 #[tactic(auto, unfolding(sc_hosts::specs::ViewChanges::view_with_answer))]
-fn answered_where(view: &mut View, request: Option<RequestView>, code: u16)
-    ensures { view.new ≡ view_with_answer request code view.old }
+fn answered_where(view: &mut View, request: Option<RequestView>, code: u16) -> Result<(), NoMemory>
+    ensures { OnOk result (view.new ≡ view_with_answer request code view.old) }
 {
     match request {
         Some(request) => answered(view, &request, code),
-        None => {}
+        None => Ok(()),
     }
 }
 
@@ -110,8 +138,7 @@ pub fn answered_by(alloc: Global, view: &mut View, req: ReqId, code: u16) -> Res
     ensures { OnOk result (view.new ≡ view_with_answer (request_in view.old req) code view.old) }
 {
     let request = request_copy(alloc, view, req)?;
-    answered_where(view, request, code);
-    Ok(())
+    answered_where(view, request, code)
 }
 
 /// Notes an answer to the received request that began a SipSession.
@@ -124,6 +151,5 @@ pub fn answered_begun(
     ensures { OnOk result (view.new ≡ view_with_answer (begun_by view.old sess) code view.old) }
 {
     let request = begun_copy(alloc, view, sess)?;
-    answered_where(view, request, code);
-    Ok(())
+    answered_where(view, request, code)
 }

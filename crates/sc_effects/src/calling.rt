@@ -40,10 +40,7 @@ pub fn after_call(alloc: Global, play: &mut Play, call: &Call) -> Result<(), NoM
         Call::CreateInDialog { sess, ask } => created_later(alloc, play, *sess, ask),
         Call::B2bCreate { req, .. } => created_leg(alloc, play, *req),
         Call::Send { draft } => sent(alloc, play, *draft),
-        Call::Discard { draft } => {
-            discarded(play, *draft);
-            Ok(())
-        }
+        Call::Discard { draft } => { discarded(play, *draft) }
         Call::Ack { sess, .. } => acked(&mut play.view, *sess),
         Call::ProxyTo { req, targets, .. } => proxied(&mut play.view, *req, targets.len()),
         Call::B2bRespond { sess, answer } => {
@@ -78,10 +75,7 @@ pub fn after_call(alloc: Global, play: &mut Play, call: &Call) -> Result<(), NoM
             flagged(&mut play.view, *target, *flag);
             Ok(())
         }
-        Call::InvalidateSession { sess } => {
-            invalidated(&mut play.view, *sess);
-            Ok(())
-        }
+        Call::InvalidateSession { sess } => { invalidated(&mut play.view, *sess) }
         Call::InvalidateApplication => {
             play.ended = true;
             Ok(())

@@ -9,7 +9,8 @@ ghost use Rattle.sc_hosts.specs.Refusals.{is_set};
 ghost use Rattle.sc_hosts.specs.Effects.{proxied_request, proxying, view_with_targets, with_attribute, with_invalidation_flag, with_timer};
 ghost use Rattle.sc_effects.specs.Elements.{proxied_at, with_flag, with_value};
 
-use sc_looking::{is_proxy, is_set, request_in, request_place, session_place, timer_place};
+use sc_looking::{Numbered, is_proxy, is_set, request_in, session_place, timer_place};
+use sc_pages::{Change, Pages, Scope};
 use sc_terms::{Period, RequestView, Role, SessionView, Target, TimerView, View};
 use sc_value::{
     CloneIn, Field, List, NoMemory, ReqId, SessId, Text, TimerId, sum, sum_u8, sum_u32,
@@ -26,15 +27,29 @@ fn proxied_request(request: &mut RequestView, count: usize) -> Result<(), NoMemo
     Ok(())
 }
 
-#[tactic(auto, using(sc_value::proofs::ListFacts::change_first_position, sc_value::proofs::ListFacts::change_first_none))]
-fn proxied_in(requests: &mut [RequestView], req: ReqId, count: usize) -> Result<(), NoMemory>
+// A request that is proxied to so many targets more.
+#[derive(Clone, Copy)]
+struct MoreProxied {
+    count: usize,
+}
+
+impl Change<RequestView> for MoreProxied {
+    ghost changed = { λ p. proxied_request p.count };
+
+    fn change(&self, request: &mut RequestView) -> Result<(), NoMemory> {
+        proxied_request(request, self.count)
+    }
+}
+
+fn proxied_in(requests: &mut Pages<RequestView>, req: ReqId, count: usize) -> Result<(), NoMemory>
     ensures { OnOk result
         (requests.new ≡ change_first (is_request req) (proxied_request count) requests.old) }
 {
-    match request_place(requests, req) {
-        Some(at) => proxied_request(&mut requests[at], count),
-        None => Ok(()),
-    }
+    requests.change_first(
+        Scope::Number(req.0),
+        &Numbered { req },
+        &MoreProxied { count },
+    )
 }
 
 #[tactic(auto, unfolding(sc_hosts::specs::Effects::proxying))]
@@ -61,7 +76,7 @@ fn proxying_in(sessions: &mut [SessionView], sess: SessId)
 fn proxied_at(view: &mut View, req: ReqId, sess: SessId, count: usize) -> Result<(), NoMemory>
     ensures { OnOk result (view.new ≡ proxied_at req sess count view.old) }
 {
-    proxied_in(&mut view.requests.items, req, count)?;
+    proxied_in(&mut view.requests, req, count)?;
     proxying_in(&mut view.sessions.items, sess);
     Ok(())
 }

@@ -1,29 +1,28 @@
 //! Looking up what an application session knows of a request.
 
-ghost use Rattle.std.specs.Prelude.{◌≡◌, position};
+ghost use Rattle.std.specs.Prelude.{◌≡◌};
 ghost use Rattle.std.specs.List.{find};
 ghost use Rattle.std.specs.Option.{option_copied};
 ghost use Rattle.sc_hosts.specs.Looking.{same_request};
 ghost use Rattle.sc_hosts.specs.Preparing.{kept_of, own_tag_of, proxy_of};
 
 use sc_looking::session_in;
+use sc_pages::{Probe, Scope};
 use sc_state::{Kept, Known, Proxy};
 use sc_terms::View;
 use sc_value::{ReqId, SessId};
 
-fn kept_place(kept: &[Kept], req: ReqId) -> Option<usize>
-    ensures { result ≡ position (λ kept. same_request kept.id req) kept.now }
-{
-    kept.iter().position(|kept| kept.id.0 == req.0)
+// Whether a kept request has this number.
+#[derive(Clone, Copy)]
+struct KeptNumbered {
+    req: ReqId,
 }
 
-#[tactic(auto, using(sc_value::proofs::ListFacts::find_position, sc_value::proofs::ListFacts::find_none))]
-fn kept_among(kept: &[Kept], req: ReqId) -> Option<&Kept>
-    ensures { option_copied result ≡ find (λ kept. same_request kept.id req) kept.now }
-{
-    match kept_place(kept, req) {
-        Some(at) => Some(&kept[at]),
-        None => None,
+impl Probe<Kept> for KeptNumbered {
+    ghost passes = { λ p kept. same_request kept.id p.req };
+
+    fn passes(&self, kept: &Kept) -> bool {
+        kept.id.0 == self.req.0
     }
 }
 
@@ -31,23 +30,20 @@ fn kept_among(kept: &[Kept], req: ReqId) -> Option<&Kept>
 pub fn kept_of(known: &Known, req: ReqId) -> Option<&Kept>
     ensures { option_copied result ≡ kept_of known.entry.now req }
 {
-    kept_among(known.kept.as_slice(), req)
+    known.kept.find(Scope::Number(req.0), &KeptNumbered { req })
 }
 
-/// The place of the proxied request of this number.
-pub fn proxy_place(proxies: &[Proxy], req: ReqId) -> Option<usize>
-    ensures { result ≡ position (λ proxy. same_request proxy.req req) proxies.now }
-{
-    proxies.iter().position(|proxy| proxy.req.0 == req.0)
+/// Whether a proxied request has this number.
+#[derive(Clone, Copy)]
+pub struct ProxyNumbered {
+    pub req: ReqId,
 }
 
-#[tactic(auto, using(sc_value::proofs::ListFacts::find_position, sc_value::proofs::ListFacts::find_none))]
-fn proxy_among(proxies: &[Proxy], req: ReqId) -> Option<&Proxy>
-    ensures { option_copied result ≡ find (λ proxy. same_request proxy.req req) proxies.now }
-{
-    match proxy_place(proxies, req) {
-        Some(at) => Some(&proxies[at]),
-        None => None,
+impl Probe<Proxy> for ProxyNumbered {
+    ghost passes = { λ p proxy. same_request proxy.req p.req };
+
+    fn passes(&self, proxy: &Proxy) -> bool {
+        proxy.req.0 == self.req.0
     }
 }
 
@@ -56,7 +52,9 @@ fn proxy_among(proxies: &[Proxy], req: ReqId) -> Option<&Proxy>
 pub fn proxy_of(known: &Known, req: ReqId) -> Option<&Proxy>
     ensures { option_copied result ≡ proxy_of known.entry.now req }
 {
-    proxy_among(known.proxies.as_slice(), req)
+    known
+        .proxies
+        .find(Scope::Number(req.0), &ProxyNumbered { req })
 }
 
 /// The own tag of a SipSession, none where the SipSession was never there.

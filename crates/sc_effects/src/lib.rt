@@ -17,9 +17,8 @@ pub use answering::{answered, answered_begun, answered_by, answered_in, request_
 pub use calling::{accepted, after_call, after_calls, after_listed, answer_of, begun};
 pub use ending::{final_noted, is_owed};
 pub use keeping::moment_after;
-pub use known::{kept_of, own_tag_of, proxy_of, proxy_place};
+pub use known::{ProxyNumbered, kept_of, own_tag_of, proxy_of};
 pub use looking::{in_state, is_confirmed, is_early, is_uac, linked, removed, unlinked};
 pub use making::{new_call_id, new_session, new_tag};
-pub use sending::awaiting;
 pub use states::{after_initial, after_response, ends_subscription};
 pub use tidying::tidy;

@@ -1,8 +1,6 @@
 //! Drafts that are sent or dropped, and ACKs.
 
 ghost use Rattle.std.specs.Prelude.{◌≡◌, ◌+◌, ◌++◌, ◌∷◌, [], ◌==◌, if◌then◌else◌, position, OnOk};
-ghost use Rattle.std.specs.List.{find};
-ghost use Rattle.std.specs.Option.{option_copied};
 ghost use Rattle.sc_value.specs.Lists.{change_first, remove_first};
 ghost use Rattle.sc_hosts.specs.Looking.{same_session, without_sip_session};
 ghost use Rattle.sc_hosts.specs.RefusalParts.{draft_in};
@@ -12,7 +10,8 @@ ghost use Rattle.sc_hosts.specs.Effects.{play_with_request, play_without_draft, 
 
 use crate::looking::removed;
 use crate::tidying::tidy;
-use sc_looking::{awaits_ack, draft_place};
+use sc_looking::{AwaitingAck, draft_place};
+use sc_pages::{Change, Pages, Scope};
 use sc_state::{Draft, Play};
 use sc_terms::{RequestView, View};
 use sc_value::{List, NoMemory, ReqId, SessId, sum, sum_u32};
@@ -76,27 +75,30 @@ pub fn sent(alloc: Global, play: &mut Play, number: u32) -> Result<(), NoMemory>
     }
 }
 
-fn drop_session(view: &mut View, draft: Draft)
-    ensures { view.new
-        ≡ (if draft.initial then tidy (without_sip_session draft.sess view.old) else view.old) }
+fn drop_session(view: &mut View, draft: Draft) -> Result<(), NoMemory>
+    ensures { OnOk result
+        (view.new
+        ≡ (if draft.initial then tidy (without_sip_session draft.sess view.old) else view.old)) }
 {
     if draft.initial {
         removed(view, draft.sess);
-        tidy(view);
+        return tidy(view);
     }
+    Ok(())
 }
 
 /// Drops a draft. An initial one takes its SipSession with it.
 #[tactic(auto, unfolding(sc_hosts::specs::Effects::play_without_draft), using(sc_value::proofs::ListFacts::find_position, sc_value::proofs::ListFacts::find_none, sc_value::proofs::ListFacts::remove_first_position))]
-pub fn discarded(play: &mut Play, number: u32)
-    ensures { play.new ≡ play_without_draft number (draft_in play.old number) play.old }
+pub fn discarded(play: &mut Play, number: u32) -> Result<(), NoMemory>
+    ensures { OnOk result
+        (play.new ≡ play_without_draft number (draft_in play.old number) play.old) }
 {
     match draft_at(play, number) {
         Some(at) => {
             let draft = play.drafts.items.remove(at);
-            drop_session(&mut play.view, draft);
+            drop_session(&mut play.view, draft)
         }
-        None => {}
+        None => Ok(()),
     }
 }
 
@@ -125,39 +127,27 @@ fn without_session(request: &mut RequestView, sess: SessId)
     remove_session(&mut request.unacked, sess);
 }
 
-fn awaiting_place(requests: &[RequestView], sess: SessId) -> Option<usize>
-    ensures { result ≡ position (awaits_ack sess) requests.now }
-{
-    requests
-        .iter()
-        .position(|request| awaits_ack(request, sess))
+// A SipSession whose 2xx has its ACK.
+#[derive(Clone, Copy)]
+struct AckNoted {
+    sess: SessId,
 }
 
-#[tactic(auto, using(sc_value::proofs::ListFacts::find_position, sc_value::proofs::ListFacts::find_none))]
-fn awaiting_among(requests: &[RequestView], sess: SessId) -> Option<&RequestView>
-    ensures { option_copied result ≡ find (awaits_ack sess) requests.now }
-{
-    match awaiting_place(requests, sess) {
-        Some(at) => Some(&requests[at]),
-        None => None,
+impl Change<RequestView> for AckNoted {
+    ghost changed = { λ p. without_session p.sess };
+
+    fn change(&self, request: &mut RequestView) -> Result<(), NoMemory> {
+        without_session(request, self.sess);
+        Ok(())
     }
 }
 
-/// The INVITE of lowest number whose 2xx in this SipSession waits for its ACK.
-pub fn awaiting(view: &View, sess: SessId) -> Option<&RequestView>
-    ensures { option_copied result ≡ find (awaits_ack sess) view.entry.now.requests }
+#[tactic(auto, using(sc_terms::proofs::RestLaws::awaiting_busy))]
+fn ack_in(requests: &mut Pages<RequestView>, sess: SessId) -> Result<(), NoMemory>
+    ensures { OnOk result
+        (requests.new ≡ change_first (awaits_ack sess) (without_session sess) requests.old) }
 {
-    awaiting_among(view.requests.as_slice(), sess)
-}
-
-#[tactic(auto, using(sc_value::proofs::ListFacts::change_first_position, sc_value::proofs::ListFacts::change_first_none))]
-fn ack_in(requests: &mut [RequestView], sess: SessId)
-    ensures { requests.new ≡ change_first (awaits_ack sess) (without_session sess) requests.old }
-{
-    match awaiting_place(requests, sess) {
-        Some(at) => without_session(&mut requests[at], sess),
-        None => {}
-    }
+    requests.change_first(Scope::Busy, &AwaitingAck { sess }, &AckNoted { sess })
 }
 
 /// Acknowledges the 2xx in a SipSession of the INVITE of lowest number: the ACK draws its branch.
@@ -166,8 +156,7 @@ pub fn acked(view: &mut View, sess: SessId) -> Result<(), NoMemory>
     ensures { OnOk result (view.new ≡ view_with_ack sess view.old) }
 {
     let counter = sum(view.counter, 1)?;
-    ack_in(&mut view.requests.items, sess);
+    ack_in(&mut view.requests, sess)?;
     view.counter = counter;
-    tidy(view);
-    Ok(())
+    tidy(view)
 }

@@ -1,5 +1,5 @@
 pub mod Folds
-pub mod Halves
+pub mod Needed
 pub mod Outcomes
 pub mod Partings
 pub mod Passings

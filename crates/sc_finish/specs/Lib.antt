@@ -1,5 +1,4 @@
 pub mod Ends
 pub mod Partings
 pub mod Passing
-pub mod Rising
 pub mod Sweeps

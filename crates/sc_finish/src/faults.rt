@@ -34,11 +34,11 @@ fn without_all(view: &mut View, drafts: &[Draft])
 
 /// The drafts that were left end; an initial one takes its SipSession with it.
 #[tactic(auto, unfolding(sc_hosts::specs::Acting::drafts_ended))]
-pub fn drafts_ended(working: &mut Working)
-    ensures { working.new ≡ drafts_ended working.old }
+pub fn drafts_ended(working: &mut Working) -> Result<(), NoMemory>
+    ensures { OnOk result (working.new ≡ drafts_ended working.old) }
 {
     without_all(&mut working.play.view, working.play.drafts.as_slice());
-    tidy(&mut working.play.view);
+    tidy(&mut working.play.view)
 }
 
 /// An answer of this code and reason, and nothing else.
@@ -76,8 +76,7 @@ pub fn answers_alone(
         (working.new ≡ answers_alone config.now request.now answer.now working.old) }
 {
     answering(alloc, config, request, answer, working)?;
-    answered(&mut working.play.view, request, answer.code);
-    Ok(())
+    answered(&mut working.play.view, request, answer.code)
 }
 
 #[tactic(auto, unfolding(sc_hosts::specs::Acting::fault_at, sc_hosts::specs::Messages::bare_answer, crate::specs::Passing::answers_alone))]

@@ -6,7 +6,6 @@ mod faults;
 mod later;
 mod parting;
 mod readiness;
-mod rising;
 mod sweeping;
 mod turns;
 

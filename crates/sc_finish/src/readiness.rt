@@ -2,7 +2,7 @@
 //! and 6.2.4).
 
 ghost use Rattle.std.specs.Prelude.{◌≡◌, not, false};
-ghost use Rattle.std.specs.List.{list_any, list_all};
+ghost use Rattle.std.specs.List.{list_all};
 ghost use Rattle.std.specs.Option.{option_map_or};
 ghost use Rattle.sc_hosts.specs.Branches.{records_route};
 ghost use Rattle.sc_hosts.specs.Finishing.{has_left, is_idle, is_open_in, is_ready, is_session_done, is_session_ready, lacks_final};
@@ -13,6 +13,7 @@ use sc_effects::{is_confirmed, is_uac, proxy_of};
 use sc_legs::leg_of;
 use sc_looking::{is_initial_state, is_proxy, is_terminated};
 use sc_methods::is_ack;
+use sc_pages::{Probe, Scope};
 use sc_state::{Known, Session};
 use sc_terms::{RequestView, SessionView, View};
 use sc_value::{ReqId, SessId};
@@ -32,10 +33,18 @@ fn is_open_in(sess: SessId, request: &RequestView) -> bool
     request.sess.0 == sess.0 && lacks_final(request)
 }
 
-fn any_open_in(sess: SessId, requests: &[RequestView]) -> bool
-    ensures { result ≡ list_any (is_open_in sess) requests.now }
-{
-    requests.iter().any(|request| is_open_in(sess, request))
+// Whether a request is open in a SipSession.
+#[derive(Clone, Copy)]
+struct OpenIn {
+    sess: SessId,
+}
+
+impl Probe<RequestView> for OpenIn {
+    ghost passes = { λ p. is_open_in p.sess };
+
+    fn passes(&self, request: &RequestView) -> bool {
+        is_open_in(self.sess, request)
+    }
 }
 
 fn leaves(known: &Known, req: ReqId) -> bool
@@ -87,7 +96,7 @@ fn is_idle(known: &Known, session: &SessionView) -> bool
 pub fn is_session_ready(known: &Known, view: &View, session: &SessionView) -> bool
     ensures { result ≡ is_session_ready known.now view.entry.now session.now }
 {
-    is_idle(known, session) && !any_open_in(session.id, view.requests.as_slice())
+    is_idle(known, session) && !view.requests.any(Scope::All, &OpenIn { sess: session.id })
 }
 
 #[tactic(auto, unfolding(sc_hosts::specs::Finishing::is_session_done))]

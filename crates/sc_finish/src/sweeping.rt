@@ -5,15 +5,14 @@ ghost use Rattle.std.specs.List.{fold};
 ghost use Rattle.std.specs.Option.{option_copied, option_map_or};
 ghost use Rattle.sc_hosts.specs.Finishing.{can_derive, can_succeed, is_needed, lacks_final, swept, without_acks, without_unneeded};
 ghost use Rattle.sc_hosts.specs.Looking.{request_in, same_request};
-ghost use Rattle.sc_finish.specs.Rising.{are_rising};
 ghost use Rattle.sc_finish.specs.Sweeps.{can_be_needed, goes, id_of, stays, without};
 
 use crate::readiness::{is_session_ready, lacks_final};
-use crate::rising::{are_rising, request_among};
 use sc_effects::{removed, tidy};
 use sc_legs::leg_among;
-use sc_looking::is_gone_in;
+use sc_looking::{is_gone_in, request_in};
 use sc_methods::{is_ack, is_invite};
+use sc_pages::{Pages, Probe, Scope};
 use sc_state::{Kept, Known, Leg, Session, Way};
 use sc_terms::{RequestView, SessionView, View};
 use sc_value::{List, NoMemory, ReqId, SessId};
@@ -68,8 +67,7 @@ pub fn swept(alloc: Global, session: &mut Session) -> Result<(), NoMemory>
 {
     let going = going_of(alloc, &session.known, &session.view)?;
     all_removed(&mut session.view, going.as_slice());
-    tidy(&mut session.view);
-    Ok(())
+    tidy(&mut session.view)
 }
 
 #[tactic(auto, unfolding(crate::specs::Sweeps::stays))]
@@ -79,25 +77,30 @@ fn stays(request: &RequestView) -> bool
     !(request.received && is_ack(request.method.as_bytes()))
 }
 
-fn keep_staying(requests: &mut List<RequestView>)
-    ensures { requests.new ≡ filter stays requests.old }
-{
-    requests.items.retain(|request| stays(request));
+// Whether a request stays.
+#[derive(Clone, Copy)]
+struct Staying;
+
+impl Probe<RequestView> for Staying {
+    ghost passes = { λ _. stays };
+
+    fn passes(&self, request: &RequestView) -> bool {
+        stays(request)
+    }
 }
 
 /// A received ACK stands in its own turn alone.
-#[tactic(auto, unfolding(sc_hosts::specs::Finishing::without_acks, crate::specs::Sweeps::stays))]
-pub fn without_acks(view: &mut View)
-    ensures { view.new ≡ without_acks view.old }
+#[tactic(auto, unfolding(sc_hosts::specs::Finishing::without_acks, crate::specs::Sweeps::stays), using(crate::proofs::Needed::going_busy))]
+pub fn without_acks(view: &mut View) -> Result<(), NoMemory>
+    ensures { OnOk result (view.new ≡ without_acks view.old) }
 {
-    keep_staying(&mut view.requests);
+    view.requests.keep(Scope::Busy, &Staying)
 }
 
-fn lacks_final_of(view: &View, rising: bool, req: ReqId) -> bool
-    requires { rising ≡ are_rising view.now.requests }
+fn lacks_final_of(view: &View, req: ReqId) -> bool
     ensures { result ≡ option_map_or lacks_final (request_in view.entry.now req) false }
 {
-    match request_among(view.requests.as_slice(), rising, req) {
+    match request_in(view, req) {
         Some(request) => lacks_final(request),
         None => false,
     }
@@ -132,32 +135,48 @@ fn can_succeed(view: &View, leg: Option<&Leg>, kept: &Kept) -> bool
         && (!is_gone_in(view, kept.sess) || can_derive(kept, leg))
 }
 
-#[tactic(auto, unfolding(sc_hosts::specs::Finishing::is_needed, crate::specs::Sweeps::can_be_needed))]
-fn needed(view: &View, rising: bool, legs: &[Leg], kept: &Kept) -> bool
-    requires { rising ≡ are_rising view.now.requests }
+#[tactic(auto, unfolding(sc_hosts::specs::Finishing::is_needed, crate::specs::Sweeps::can_be_needed), using(crate::proofs::Needed::either))]
+fn needed(view: &View, legs: &[Leg], kept: &Kept) -> bool
     ensures { result ≡ can_be_needed view.entry.now legs.now kept.now }
 {
     match kept.way {
-        Way::Received { .. } => lacks_final_of(view, rising, kept.id),
+        Way::Received { .. } => lacks_final_of(view, kept.id),
         Way::Sent { .. } => {
-            request_among(view.requests.as_slice(), rising, kept.id).is_some()
-                || can_succeed(view, leg_among(legs, kept.sess), kept)
+            can_succeed(view, leg_among(legs, kept.sess), kept)
+                || request_in(view, kept.id).is_some()
         }
     }
 }
 
-fn keep_needed(view: &View, legs: &[Leg], kept: &mut List<Kept>)
-    ensures { kept.new ≡ filter (can_be_needed view.entry.now legs.now) kept.old }
+// Whether a kept request can still be needed.
+#[derive(Clone, Copy)]
+struct StillNeeded<'a> {
+    view: &'a View,
+    legs: &'a [Leg],
+}
+
+impl Probe<Kept> for StillNeeded<'_> {
+    ghost passes = { λ p. can_be_needed p.view.now p.legs.now };
+
+    fn passes(&self, kept: &Kept) -> bool {
+        needed(self.view, self.legs, kept)
+    }
+}
+
+// Those of which the request rests are needed.
+#[tactic(auto, using(crate::proofs::Needed::resting_needed))]
+fn keep_needed(view: &View, legs: &[Leg], kept: &mut Pages<Kept>) -> Result<(), NoMemory>
+    ensures { OnOk result (kept.new ≡ filter (can_be_needed view.entry.now legs.now) kept.old) }
 {
-    let rising = are_rising(view.requests.as_slice());
-    kept.items.retain(|kept| needed(view, rising, legs, kept));
+    let resting = view.requests.resting()?;
+    kept.keep_outside(resting.as_slice(), &StillNeeded { view, legs })
 }
 
 /// Of the requests only those are kept that can still be needed.
 #[tactic(auto, unfolding(sc_hosts::specs::Finishing::without_unneeded, sc_hosts::specs::Legs::leg_of, crate::specs::Sweeps::can_be_needed))]
-pub fn lightened(session: &mut Session)
-    ensures { session.new ≡ without_unneeded session.old }
+pub fn lightened(session: &mut Session) -> Result<(), NoMemory>
+    ensures { OnOk result (session.new ≡ without_unneeded session.old) }
 {
     let known = &mut session.known;
-    keep_needed(&session.view, known.legs.as_slice(), &mut known.kept);
+    keep_needed(&session.view, known.legs.as_slice(), &mut known.kept)
 }

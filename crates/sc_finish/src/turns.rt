@@ -44,7 +44,7 @@ fn finished(
 ) -> Result<(), NoMemory>
     ensures { OnOk result (working.new ≡ after_all_calls config.now event.now req end working.old) }
 {
-    drafts_ended(working);
+    drafts_ended(working)?;
     faulted(alloc, config, req, end, working)?;
     all_act(alloc, config, working)?;
     passes_later(alloc, config, event, req, working)
@@ -89,8 +89,7 @@ fn left_by(alloc: Global, ends: bool, session: &mut Session) -> Result<(), NoMem
     if !ends {
         swept(alloc, session)?;
     }
-    lightened(session);
-    Ok(())
+    lightened(session)
 }
 
 #[tactic(auto, using(crate::proofs::Outcomes::outcome_is))]
@@ -108,7 +107,7 @@ fn outcome_of(alloc: Global, event: &Queued, working: Working) -> Result<Outcome
         view: play.view,
         known,
     };
-    without_acks(&mut session.view);
+    without_acks(&mut session.view)?;
     let ends = ends(event, ended, &session);
     left_by(alloc, ends, &mut session)?;
     Ok(Outcome {

@@ -9,6 +9,7 @@ ghost use Rattle.sc_hosts.specs.Legs.{first_got, first_known, first_leg, first_s
 
 use sc_dialog::Dialog;
 use sc_effects::moment_after;
+use sc_pages::Pages;
 use sc_state::{Got, Known, Leg, Note, Session};
 use sc_terms::{AppEntry, Config, Role, SessionView, State, View};
 use sc_value::{Address, AppId, CloneIn, List, NoMemory, ReqId, Request, SessId, Text, tag};
@@ -75,7 +76,7 @@ fn first_view(
         next_timer: 1,
         attributes: List::new(alloc),
         sessions,
-        requests: List::new(alloc),
+        requests: Pages::new(alloc),
         timers: List::new(alloc),
     })
 }
@@ -157,9 +158,9 @@ fn first_known(
         region: noted.region,
         order: noted.order,
         legs,
-        kept: List::new(alloc),
-        invited: List::new(alloc),
-        proxies: List::new(alloc),
+        kept: Pages::new(alloc),
+        invited: Pages::new(alloc),
+        proxies: Pages::new(alloc),
     })
 }
 

@@ -1,12 +1,13 @@
 //! What the requests of a view tell, and which attributes are set.
 
-ghost use Rattle.std.specs.Prelude.{◌≡◌, ◌&&◌, position};
+ghost use Rattle.std.specs.Prelude.{◌≡◌, ◌&&◌};
 ghost use Rattle.std.specs.List.{find};
 ghost use Rattle.std.specs.Option.{option_copied};
 ghost use Rattle.sc_hosts.specs.Looking.{same_session};
 ghost use Rattle.sc_hosts.specs.Refusals.{awaits_ack, begun_by, is_set};
 
 use crate::views::has_session;
+use sc_pages::{Probe, Scope};
 use sc_terms::{RequestView, View};
 use sc_value::{Field, SessId};
 
@@ -17,40 +18,49 @@ pub fn awaits_ack(request: &RequestView, sess: SessId) -> bool
     has_session(request.unacked.as_slice(), sess)
 }
 
-fn begins(request: &RequestView, sess: SessId) -> bool
-    ensures { result
-        ≡ (request.now.received && request.now.initial && same_session request.now.sess sess) }
-{
-    request.received && request.initial && request.sess.0 == sess.0
+/// Whether a request is a sent INVITE whose 2xx in this SipSession has no ACK.
+#[derive(Clone, Copy)]
+pub struct AwaitingAck {
+    pub sess: SessId,
 }
 
-fn begun_place(requests: &[RequestView], sess: SessId) -> Option<usize>
-    ensures { result
-        ≡ position
-        (λ request. request.received && request.initial && same_session request.sess sess)
-        requests.now }
-{
-    requests.iter().position(|request| begins(request, sess))
+impl Probe<RequestView> for AwaitingAck {
+    ghost passes = { λ p. awaits_ack p.sess };
+
+    fn passes(&self, request: &RequestView) -> bool {
+        awaits_ack(request, self.sess)
+    }
 }
 
-#[tactic(auto, using(sc_value::proofs::ListFacts::find_position, sc_value::proofs::ListFacts::find_none))]
-fn begun_among(requests: &[RequestView], sess: SessId) -> Option<&RequestView>
-    ensures { option_copied result
-        ≡ find (λ request. request.received && request.initial && same_session request.sess sess)
-        requests.now }
+/// The request of lowest number that is a sent INVITE whose 2xx in this SipSession has no ACK.
+#[tactic(auto, using(sc_terms::proofs::RestLaws::awaiting_busy))]
+pub fn awaiting(view: &View, sess: SessId) -> Option<&RequestView>
+    ensures { option_copied result ≡ find (awaits_ack sess) view.entry.now.requests }
 {
-    match begun_place(requests, sess) {
-        Some(at) => Some(&requests[at]),
-        None => None,
+    view.requests.find(Scope::Busy, &AwaitingAck { sess })
+}
+
+// Whether a request was received and began this SipSession.
+#[derive(Clone, Copy)]
+struct Beginning {
+    sess: SessId,
+}
+
+impl Probe<RequestView> for Beginning {
+    ghost passes = { λ p request.
+        request.received && request.initial && same_session request.sess p.sess };
+
+    fn passes(&self, request: &RequestView) -> bool {
+        request.received && request.initial && request.sess.0 == self.sess.0
     }
 }
 
 /// The received request that began a SipSession.
-#[tactic(auto, unfolding(sc_hosts::specs::Refusals::begun_by))]
+#[tactic(auto, unfolding(sc_hosts::specs::Refusals::begun_by), using(sc_terms::proofs::RestLaws::initial_busy))]
 pub fn begun_by(view: &View, sess: SessId) -> Option<&RequestView>
     ensures { option_copied result ≡ begun_by view.entry.now sess }
 {
-    begun_among(view.requests.as_slice(), sess)
+    view.requests.find(Scope::Busy, &Beginning { sess })
 }
 
 /// Whether a field has this name.

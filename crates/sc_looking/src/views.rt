@@ -6,23 +6,21 @@ ghost use Rattle.std.specs.Option.{option_copied};
 ghost use Rattle.sc_hosts.specs.Looking.{is_confirmed, is_early, is_gone, is_gone_in, is_initial_state, is_open_state, is_proxy, is_request, is_session, is_terminated, is_timer, partner, request_in, same_session, session_count, session_in, timer_in};
 ghost use Rattle.sc_hosts.specs.Refusals.{is_ended_session, is_begun};
 
+use sc_pages::{Probe, Scope};
 use sc_terms::{RequestView, Role, SessionView, State, TimerView, View};
 use sc_value::{ReqId, SessId, TimerId};
 
-/// The place of the request of this number.
-pub fn request_place(requests: &[RequestView], req: ReqId) -> Option<usize>
-    ensures { result ≡ position (is_request req) requests.now }
-{
-    requests.iter().position(|request| request.id.0 == req.0)
+/// Whether a request has this number.
+#[derive(Clone, Copy)]
+pub struct Numbered {
+    pub req: ReqId,
 }
 
-#[tactic(auto, using(sc_value::proofs::ListFacts::find_position, sc_value::proofs::ListFacts::find_none))]
-fn request_among(requests: &[RequestView], req: ReqId) -> Option<&RequestView>
-    ensures { option_copied result ≡ find (is_request req) requests.now }
-{
-    match request_place(requests, req) {
-        Some(at) => Some(&requests[at]),
-        None => None,
+impl Probe<RequestView> for Numbered {
+    ghost passes = { λ p. is_request p.req };
+
+    fn passes(&self, request: &RequestView) -> bool {
+        request.id.0 == self.req.0
     }
 }
 
@@ -30,7 +28,7 @@ fn request_among(requests: &[RequestView], req: ReqId) -> Option<&RequestView>
 pub fn request_in(view: &View, req: ReqId) -> Option<&RequestView>
     ensures { option_copied result ≡ request_in view.entry.now req }
 {
-    request_among(view.requests.as_slice(), req)
+    view.requests.find(Scope::Number(req.0), &Numbered { req })
 }
 
 /// The place of the SipSession of this number.

@@ -1,8 +1,11 @@
 //! Offers that no PRACK came for in time (RFC 3262 section 3).
 
-ghost use Rattle.std.specs.Prelude.{◌≡◌, Some, true, false, is_some, option_map, position, IfOk};
+ghost use Rattle.std.specs.Prelude.{◌≡◌, ◌==◌, Some, true, false, is_some, option_map, IfOk};
 ghost use Rattle.std.specs.List.{find};
 ghost use Rattle.std.specs.Option.{option_copied};
+ghost use Rattle.sc_terms.specs.declared.views.RequestView.{RequestView};
+ghost use Rattle.sc_terms.specs.Resting.{is_resting};
+ghost use Rattle.sc_pages.specs.Scopes.{is_in};
 ghost use Rattle.sc_hosts.specs.HelperParts.{accepted_then};
 ghost use Rattle.sc_hosts.specs.Looking.{is_request, request_in};
 ghost use Rattle.sc_hosts.specs.Offers.{ended_offer_text, late_offer, pending_offer, rel_name};
@@ -19,6 +22,7 @@ use crate::pending::{note_ended, pending_offer};
 use crate::refused::{OfferRefused, turned};
 use sc_apps::memory_of;
 use sc_helpers::{Stopped, try_reply, wanting};
+use sc_pages::{Probe, Scope};
 use sc_terms::{Call, RequestView, View};
 use sc_turn::Turn;
 use sc_value::{NoMemory, ReqId, TimerId};
@@ -33,22 +37,36 @@ pub struct Overdue {
     pub req: ReqId,
 }
 
-fn request_place(requests: &[RequestView], number: u64) -> Option<usize>
-    ensures { result ≡ position (is_request (record { 0 = number })) requests.now }
-{
-    requests
-        .iter()
-        .position(|request| u64::from(request.id.0) == number)
+// Whether a request has this number.
+#[derive(Clone, Copy)]
+struct NumberIs {
+    number: u64,
 }
 
-#[tactic(auto, using(sc_value::proofs::ListFacts::find_position, sc_value::proofs::ListFacts::find_none))]
-fn request_among(requests: &[RequestView], number: u64) -> Option<&RequestView>
-    ensures { option_copied result ≡ find (is_request (record { 0 = number })) requests.now }
-{
-    match request_place(requests, number) {
-        Some(at) => Some(&requests[at]),
-        None => None,
+impl Probe<RequestView> for NumberIs {
+    ghost passes = { λ p. is_request (record { 0 = p.number }) };
+
+    fn passes(&self, request: &RequestView) -> bool {
+        u64::from(request.id.0) == self.number
     }
+}
+
+// No request has a number past the greatest that it can have.
+fn scope_of(number: u64) -> Scope
+    ensures { (request : RequestView) → (request.id.0 == number) ≡ true
+        → is_in (λ (r : RequestView). r.id.0) is_resting result request ≡ true }
+{
+    if number <= u64::from(u32::MAX) {
+        Scope::Number(number as u32)
+    } else {
+        Scope::All
+    }
+}
+
+fn request_among(view: &View, number: u64) -> Option<&RequestView>
+    ensures { option_copied result ≡ request_in view.entry.now (record { 0 = number }) }
+{
+    view.requests.find(scope_of(number), &NumberIs { number })
 }
 
 /// The request of this number, unless it has its final answer.
@@ -56,7 +74,7 @@ fn request_among(requests: &[RequestView], number: u64) -> Option<&RequestView>
 fn open_request(view: &View, number: u64) -> Option<ReqId>
     ensures { result ≡ open_in (request_in view.entry.now (record { 0 = number })) }
 {
-    let request = request_among(view.requests.as_slice(), number)?;
+    let request = request_among(view, number)?;
     if request.answered.is_some() {
         None
     } else {
@@ -189,7 +207,7 @@ pub fn request_of(view: &View, number: u64) -> Option<ReqId>
     ensures { result
         ≡ option_map (λ request. request.id) (request_in view.entry.now (record { 0 = number })) }
 {
-    match request_among(view.requests.as_slice(), number) {
+    match request_among(view, number) {
         Some(request) => Some(request.id),
         None => None,
     }

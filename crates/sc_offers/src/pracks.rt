@@ -1,8 +1,7 @@
 //! PRACKs, and the offers that they acknowledge (RFC 3262 sections 3 and 7.2).
 
-ghost use Rattle.std.specs.Prelude.{◌≡◌, Some, codes, false, option_map, position, IfOk};
+ghost use Rattle.std.specs.Prelude.{◌≡◌, Some, codes, false, option_map, IfOk};
 ghost use Rattle.std.specs.List.{find};
-ghost use Rattle.std.specs.Option.{option_copied};
 ghost use Rattle.sc_hosts.specs.HelperParts.{accepted_then, field_of};
 ghost use Rattle.sc_hosts.specs.Offers.{ended_offer_text, is_invite_of, names_offer, rel_name};
 ghost use Rattle.sc_hosts.specs.Scripting.{Done, only, reply};
@@ -19,6 +18,7 @@ use crate::words::three_words;
 use sc_apps::memory_of;
 use sc_helpers::{Stopped, field_of, timer_named, try_cancel_some, try_reply, wanting};
 use sc_methods::is_invite;
+use sc_pages::{Probe, Scope};
 use sc_terms::{Call, RequestView, View};
 use sc_turn::Turn;
 use sc_value::{NoMemory, ReqId, Request, SessId, TimerId};
@@ -43,21 +43,17 @@ fn is_invite_of(request: &RequestView, sess: SessId) -> bool
         && request.sess.0 == sess.0
 }
 
-fn invite_place(requests: &[RequestView], sess: SessId) -> Option<usize>
-    ensures { result ≡ position (is_invite_of sess) requests.now }
-{
-    requests
-        .iter()
-        .position(|request| is_invite_of(request, sess))
+// Whether a request is the INVITE that began this SipSession.
+#[derive(Clone, Copy)]
+struct InviteOf {
+    sess: SessId,
 }
 
-#[tactic(auto, using(sc_value::proofs::ListFacts::find_position, sc_value::proofs::ListFacts::find_none))]
-fn invite_among(requests: &[RequestView], sess: SessId) -> Option<&RequestView>
-    ensures { option_copied result ≡ find (is_invite_of sess) requests.now }
-{
-    match invite_place(requests, sess) {
-        Some(at) => Some(&requests[at]),
-        None => None,
+impl Probe<RequestView> for InviteOf {
+    ghost passes = { λ p. is_invite_of p.sess };
+
+    fn passes(&self, request: &RequestView) -> bool {
+        is_invite_of(request, self.sess)
     }
 }
 
@@ -67,7 +63,7 @@ pub fn invite_of(view: &View, sess: SessId) -> Option<ReqId>
     ensures { result
         ≡ option_map (λ request. request.id) (find (is_invite_of sess) view.entry.now.requests) }
 {
-    match invite_among(view.requests.as_slice(), sess) {
+    match view.requests.find(Scope::Busy, &InviteOf { sess }) {
         Some(request) => Some(request.id),
         None => None,
     }

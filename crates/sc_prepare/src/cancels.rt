@@ -76,7 +76,7 @@ fn terminated_kept(
         prepared_end session.old invited request.now (Some kept.now) ≡ prepared_as session.new s) }
 {
     let orders = terminated_order(alloc, &session.view, invited, kept.request.get())?;
-    answered(&mut session.view, request, 487);
+    answered(&mut session.view, request, 487)?;
     Ok(shown_cancel(&session.view, invited, Some(invited.req), orders))
 }
 
@@ -109,7 +109,7 @@ fn stopped_proxy(
     ensures { IfOk result
         (λ s. cancelled_proxy session.old invited (Some proxy.now) ≡ prepared_as session.new s) }
 {
-    stop_proxy(&mut session.known, proxy.req);
+    stop_proxy(&mut session.known, proxy.req)?;
     if !is_supervised(proxy) {
         return Ok(silent(List::new(alloc)));
     }

@@ -5,7 +5,7 @@ ghost use Rattle.std.specs.List.{find, list_any};
 ghost use Rattle.sc_value.specs.Lists.{change_first, remove_first};
 ghost use Rattle.sc_model.specs.Names.{edge_tag};
 ghost use Rattle.sc_hosts.specs.Branches.{ended_by, has_branch, to_cancel};
-ghost use Rattle.sc_hosts.specs.Looking.{is_timer, same_request, timer_in};
+ghost use Rattle.sc_hosts.specs.Looking.{is_timer, timer_in};
 ghost use Rattle.sc_hosts.specs.Messages.{own_response};
 ghost use Rattle.sc_hosts.specs.Words.{request_timeout};
 ghost use Rattle.sc_hosts.specs.PreparingResponses.{change_proxy};
@@ -13,10 +13,11 @@ ghost use Rattle.sc_hosts.specs.Preparing.{after_timer, has_expired, next_firing
 ghost use Rattle.sc_shown.specs.Shown.{due_at, prepared_as};
 
 use sc_branches::{ended_by, is_invite, is_timed_out, to_cancel};
-use sc_effects::proxy_place;
+use sc_effects::ProxyNumbered;
 use sc_legs::is_invalid;
 use sc_looking::timer_place;
 use sc_messages::own_response;
+use sc_pages::{Change, Scope};
 use sc_shown::{Shown, branch_copy, showing, silent, timer_copy};
 use sc_state::{Known, Proxy, Session};
 use sc_terms::{Config, Event, Period, TimerView, View};
@@ -116,40 +117,44 @@ pub fn prepared_expiry(alloc: Global, session: &Session) -> Shown
     }
 }
 
-#[tactic(auto, using(sc_value::proofs::ListFacts::change_first_position, sc_value::proofs::ListFacts::change_first_none))]
-fn cancel_in(proxies: &mut [Proxy], req: ReqId, branch: u64)
-    ensures { proxies.new
-        ≡ change_first (λ proxy. same_request proxy.req req) (to_cancel branch) proxies.old }
-{
-    match proxy_place(proxies, req) {
-        Some(at) => to_cancel(branch, &mut proxies[at]),
-        None => {}
+// A branch that is cancelled at the end of this turn.
+#[derive(Clone, Copy)]
+struct ToCancel {
+    branch: u64,
+}
+
+impl Change<Proxy> for ToCancel {
+    ghost changed = { λ p. to_cancel p.branch };
+
+    fn change(&self, proxy: &mut Proxy) -> Result<(), NoMemory> {
+        to_cancel(self.branch, proxy);
+        Ok(())
     }
 }
 
-fn cancel_branch(known: &mut Known, req: ReqId, branch: u64)
-    ensures { known.new ≡ change_proxy req (to_cancel branch) known.old }
+fn cancel_branch(known: &mut Known, req: ReqId, branch: u64) -> Result<(), NoMemory>
+    ensures { OnOk result (known.new ≡ change_proxy req (to_cancel branch) known.old) }
 {
-    cancel_in(&mut known.proxies.items, req, branch);
+    let numbered = ProxyNumbered { req };
+    known
+        .proxies
+        .change_first(Scope::Number(req.0), &numbered, &ToCancel { branch })
 }
 
-#[tactic(auto, using(sc_value::proofs::ListFacts::change_first_position, sc_value::proofs::ListFacts::change_first_none))]
-fn end_in(
+// A branch that ends by this response.
+#[derive(Clone, Copy)]
+struct Ended<'a> {
     alloc: Global,
-    proxies: &mut [Proxy],
-    req: ReqId,
     branch: u64,
     sess: SessId,
-    response: &Shared<Response>,
-) -> Result<(), NoMemory>
-    ensures { OnOk result
-        (proxies.new
-        ≡ change_first (λ proxy. same_request proxy.req req) (ended_by branch sess response.now)
-        proxies.old) }
-{
-    match proxy_place(proxies, req) {
-        Some(at) => ended_by(alloc, &mut proxies[at], branch, sess, response),
-        None => Ok(()),
+    response: &'a Shared<Response>,
+}
+
+impl Change<Proxy> for Ended<'_> {
+    ghost changed = { λ p. ended_by p.branch p.sess p.response.now };
+
+    fn change(&self, proxy: &mut Proxy) -> Result<(), NoMemory> {
+        ended_by(self.alloc, proxy, self.branch, self.sess, self.response)
     }
 }
 
@@ -164,7 +169,16 @@ fn end_branch(
     ensures { OnOk result
         (known.new ≡ change_proxy req (ended_by branch sess response.now) known.old) }
 {
-    end_in(alloc, &mut known.proxies.items, req, branch, sess, response)
+    let numbered = ProxyNumbered { req };
+    let ended = Ended {
+        alloc,
+        branch,
+        sess,
+        response,
+    };
+    known
+        .proxies
+        .change_first(Scope::Number(req.0), &numbered, &ended)
 }
 
 // The 408 as which a branch ends whose time is up.
@@ -204,8 +218,7 @@ fn timed_out(
         (session.new ≡ timed_out config.now session.old proxy.now branch provisional) }
 {
     if is_invite(proxy) && provisional {
-        cancel_branch(&mut session.known, proxy.req, branch);
-        return Ok(());
+        return cancel_branch(&mut session.known, proxy.req, branch);
     }
     let response = timeout_response(alloc, config, proxy.request.get())?;
     end_branch(

@@ -1,1 +1,2 @@
 pub mod AttributeSums
+pub mod BranchSums

@@ -10,20 +10,19 @@ ghost use Rattle.sc_hosts.specs.Refusals.{awaits_ack, cancel_refusal, begun_by, 
 
 use crate::asking::respond_refusal;
 use sc_looking::{
-    awaits_ack, begun_by, is_ended, is_set, partner, request_in, session_in, timer_in,
+    AwaitingAck, begun_by, is_ended, is_set, partner, request_in, session_in, timer_in,
 };
 use sc_methods::is_invite;
+use sc_pages::Scope;
 use sc_terms::{Answer, Period, Refusal, RequestView, State, View};
 use sc_value::{Field, ReqId, SessId, TimerId};
 
 /// Whether a sent INVITE waits for an ACK to its 2xx in this SipSession.
+#[tactic(auto, using(sc_terms::proofs::RestLaws::awaiting_busy))]
 pub fn is_unacked(view: &View, sess: SessId) -> bool
     ensures { result ≡ list_any (awaits_ack sess) view.entry.now.requests }
 {
-    view.requests
-        .as_slice()
-        .iter()
-        .any(|request| awaits_ack(request, sess))
+    view.requests.any(Scope::Busy, &AwaitingAck { sess })
 }
 
 #[tactic(auto, unfolding(sc_hosts::specs::Refusals::cancel_refusal, sc_hosts::specs::RefusalParts::first_of))]

@@ -5,6 +5,7 @@ ghost use Rattle.std.specs.Prelude.{◌≡◌, ◌+◌, nat_lt, length, sum_by, 
 ghost use Rattle.sc_hosts.specs.Refusals.{attribute_bytes, branch_count};
 ghost use Rattle.sc_refusals.specs.AttributeSums.{bytes_beside};
 
+use sc_pages::{Page, Pages};
 use sc_terms::{RequestView, View};
 use sc_value::Field;
 
@@ -19,12 +20,31 @@ fn branches_of(requests: &[RequestView]) -> u64
     sum
 }
 
+// The branches of the requests of pages.
+fn branches_of_pages(pages: &[Page<RequestView>]) -> u64
+    ensures { result ≡ min (sum_by (λ page. sum_by (λ request. request.branches) page) pages.now) u64.MAX }
+{
+    let mut sum: u64 = 0;
+    for page in pages {
+        sum = sum.saturating_add(branches_of(page.items()));
+    }
+    sum
+}
+
+#[tactic(auto, using(crate::proofs::BranchSums::with_newest))]
+fn branches_of_all(requests: &Pages<RequestView>) -> u64
+    ensures { result ≡ min (sum_by (λ request. request.branches) requests.now) u64.MAX }
+{
+    let (pages, newest) = requests.parts();
+    branches_of_pages(pages).saturating_add(branches_of(newest))
+}
+
 /// Whether an application session would have more than 32 branches with so many more.
 #[tactic(auto, unfolding(sc_hosts::specs::Refusals::branch_count))]
 pub fn passes_branches(view: &View, more: usize) -> bool
     ensures { result ≡ nat_lt 32 (branch_count view.entry.now + more) }
 {
-    32 < branches_of(view.requests.as_slice()).saturating_add(more as u64)
+    32 < branches_of_all(&view.requests).saturating_add(more as u64)
 }
 
 // The bytes of an attribute, none where it has this name.

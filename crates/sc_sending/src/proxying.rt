@@ -1,16 +1,15 @@
 //! Proxies, and CANCEL.
 
 ghost use Rattle.std.specs.Prelude.{◌≡◌, Some, IfOk, OnOk};
-ghost use Rattle.sc_value.specs.Lists.{change_first};
 ghost use Rattle.sc_state.specs.declared.proxy.Proxy.{Proxy};
 ghost use Rattle.sc_hosts.specs.Branches.{new_proxy, with_targets};
-ghost use Rattle.sc_hosts.specs.Looking.{same_request};
 ghost use Rattle.sc_hosts.specs.PreparingResponses.{change_proxy};
 ghost use Rattle.sc_hosts.specs.Preparing.{kept_of};
 ghost use Rattle.sc_hosts.specs.Working.{cancels, event_of, proxies, proxies_first};
 
 use sc_branches::{new_proxy, with_targets};
-use sc_effects::{kept_of, proxy_of, proxy_place};
+use sc_effects::{ProxyNumbered, kept_of, proxy_of};
+use sc_pages::{Change, Scope};
 use sc_state::{Kept, Known, Order, Proxy, Way, Working};
 use sc_terms::ProxyOptions;
 use sc_value::{NoMemory, ReqId, Uri};
@@ -33,23 +32,29 @@ pub fn cancels(working: &mut Working, req: ReqId) -> Result<(), NoMemory>
     }
 }
 
-#[tactic(auto, using(sc_value::proofs::ListFacts::change_first_position, sc_value::proofs::ListFacts::change_first_none))]
-fn add_in(alloc: Global, proxies: &mut [Proxy], req: ReqId, uris: &[Uri]) -> Result<(), NoMemory>
-    ensures { OnOk result
-        (proxies.new
-        ≡ change_first (λ proxy. same_request proxy.req req) (with_targets uris.now)
-        proxies.old) }
-{
-    match proxy_place(proxies, req) {
-        Some(at) => with_targets(alloc, &mut proxies[at], uris),
-        None => Ok(()),
+// More targets of a proxied request.
+#[derive(Clone, Copy)]
+struct MoreTargets<'a> {
+    alloc: Global,
+    uris: &'a [Uri],
+}
+
+impl Change<Proxy> for MoreTargets<'_> {
+    ghost changed = { λ p. with_targets p.uris.now };
+
+    fn change(&self, proxy: &mut Proxy) -> Result<(), NoMemory> {
+        with_targets(self.alloc, proxy, self.uris)
     }
 }
 
 fn add_targets(alloc: Global, known: &mut Known, req: ReqId, uris: &[Uri]) -> Result<(), NoMemory>
     ensures { OnOk result (known.new ≡ change_proxy req (with_targets uris.now) known.old) }
 {
-    add_in(alloc, &mut known.proxies.items, req, uris)
+    let numbered = ProxyNumbered { req };
+    let more = MoreTargets { alloc, uris };
+    known
+        .proxies
+        .change_first(Scope::Number(req.0), &numbered, &more)
 }
 
 /// The number of the event of a request that came, 0 of another.

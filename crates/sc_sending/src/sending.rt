@@ -18,9 +18,9 @@ ghost use Rattle.sc_sending.specs.Pieces.{begins, with_first};
 
 use crate::drafting::written_at;
 use sc_dialog::{Dialog, ack_request, next_request};
-use sc_effects::{awaiting, kept_of};
+use sc_effects::kept_of;
 use sc_legs::{leg_of, leg_place, take_sent};
-use sc_looking::draft_in;
+use sc_looking::{awaiting, draft_in};
 use sc_messages::{from_here, on_branch};
 use sc_state::{Asked, Kept, Known, Leg, Order, Way, Working, Written};
 use sc_terms::{Config, Inside, View};

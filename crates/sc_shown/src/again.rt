@@ -7,6 +7,7 @@ ghost use Rattle.sc_hosts.specs.PreparingResponses.{has_begun, insert_request, s
 ghost use Rattle.sc_shown.specs.Shown.{is_behind};
 
 use sc_legs::leg_of;
+use sc_pages::Pages;
 use sc_state::{Kept, Known, Session};
 use sc_terms::RequestView;
 use sc_value::{CloneIn, List, NoMemory, ReqId};
@@ -89,6 +90,21 @@ fn insert_request(
     Ok(())
 }
 
+// It is rare: a list of its own of all of them is made, and their pages anew.
+fn insert_in(
+    alloc: Global,
+    requests: &mut Pages<RequestView>,
+    request: &RequestView,
+) -> Result<(), NoMemory>
+    ensures { OnOk result (requests.new ≡ insert_request request.now requests.old) }
+{
+    let mut list = requests.to_list()?;
+    insert_request(alloc, &mut list, request)?;
+    let all = Pages::from_slice(alloc, list.as_slice())?;
+    *requests = all;
+    Ok(())
+}
+
 /// The view lists the request among the others, in the order of their numbers.
 pub fn with_request_again(
     alloc: Global,
@@ -97,5 +113,5 @@ pub fn with_request_again(
 ) -> Result<(), NoMemory>
     ensures { OnOk result (session.new ≡ with_request_again request.now session.old) }
 {
-    insert_request(alloc, &mut session.view.requests, request)
+    insert_in(alloc, &mut session.view.requests, request)
 }

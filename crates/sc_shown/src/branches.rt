@@ -5,7 +5,7 @@ ghost use Rattle.std.specs.List.{find};
 ghost use Rattle.sc_value.specs.Lists.{change_first};
 ghost use Rattle.sc_terms.specs.declared.events.Event.{Event};
 ghost use Rattle.sc_hosts.specs.Branches.{proxy_after_response};
-ghost use Rattle.sc_hosts.specs.Looking.{is_request, same_request, session_in};
+ghost use Rattle.sc_hosts.specs.Looking.{same_request, session_in};
 ghost use Rattle.sc_hosts.specs.PreparingResponses.{branch_placed, change_proxy, dialog_options, event_of_response, heard_in, is_watched, prepared_branch, with_branches};
 ghost use Rattle.sc_shown.specs.Shown.{more_branches, prepared_as};
 
@@ -14,9 +14,10 @@ use crate::responses::response_event;
 use crate::shown::{Shown, showing_in, silent};
 use sc_branches::{added_targets, heard, is_told_whole};
 use sc_derived::handled;
-use sc_effects::{proxy_of, proxy_place};
+use sc_effects::{ProxyNumbered, proxy_of};
 use sc_legs::{is_invalid, leg_of, take_answer};
-use sc_looking::request_place;
+use sc_looking::Numbered;
+use sc_pages::{Change, Scope};
 use sc_state::{Known, Proxy, Session};
 use sc_terms::{Event, ProxyOptions, RequestView, SessionView, View};
 use sc_value::{CloneIn, List, NoMemory, ReqId, Response, SessId, Shared, sum_u8};
@@ -63,14 +64,17 @@ fn more_branches(request: &mut RequestView, count: usize) -> Result<(), NoMemory
     Ok(())
 }
 
-#[tactic(auto, using(sc_value::proofs::ListFacts::change_first_position, sc_value::proofs::ListFacts::change_first_none))]
-fn more_in(requests: &mut [RequestView], req: ReqId, count: usize) -> Result<(), NoMemory>
-    ensures { OnOk result
-        (requests.new ≡ change_first (is_request req) (more_branches count) requests.old) }
-{
-    match request_place(requests, req) {
-        Some(at) => more_branches(&mut requests[at], count),
-        None => Ok(()),
+// So many branches more.
+#[derive(Clone, Copy)]
+struct MoreBranches {
+    count: usize,
+}
+
+impl Change<RequestView> for MoreBranches {
+    ghost changed = { λ p. more_branches p.count };
+
+    fn change(&self, request: &mut RequestView) -> Result<(), NoMemory> {
+        more_branches(request, self.count)
     }
 }
 
@@ -85,27 +89,34 @@ fn with_branches(
     ensures { OnOk result (view.new ≡ with_branches proxy.now response.now view.old) }
 {
     let added = added_targets(alloc, proxy, response)?;
-    more_in(&mut view.requests.items, proxy.req, added.len())
+    let numbered = Numbered { req: proxy.req };
+    let more = MoreBranches { count: added.len() };
+    view.requests
+        .change_first(Scope::Number(proxy.req.0), &numbered, &more)
 }
 
-#[tactic(auto, using(sc_value::proofs::ListFacts::change_first_position, sc_value::proofs::ListFacts::change_first_none))]
-fn hear_in(
+// A response that a branch of a proxied request gave.
+#[derive(Clone, Copy)]
+struct Hearing<'a> {
     alloc: Global,
-    proxies: &mut [Proxy],
-    req: ReqId,
     branch: u64,
     sess: SessId,
-    response: &Shared<Response>,
+    response: &'a Shared<Response>,
     now: u64,
-) -> Result<(), NoMemory>
-    ensures { OnOk result
-        (proxies.new
-        ≡ change_first (λ proxy. same_request proxy.req req) (proxy_after_response branch sess response.now now)
-        proxies.old) }
-{
-    match proxy_place(proxies, req) {
-        Some(at) => heard(alloc, &mut proxies[at], branch, sess, response, now),
-        None => Ok(()),
+}
+
+impl Change<Proxy> for Hearing<'_> {
+    ghost changed = { λ p. proxy_after_response p.branch p.sess p.response.now p.now };
+
+    fn change(&self, proxy: &mut Proxy) -> Result<(), NoMemory> {
+        heard(
+            self.alloc,
+            proxy,
+            self.branch,
+            self.sess,
+            self.response,
+            self.now,
+        )
     }
 }
 
@@ -121,15 +132,17 @@ fn hear(
     ensures { OnOk result
         (known.new ≡ change_proxy req (proxy_after_response branch sess response.now now) known.old) }
 {
-    hear_in(
+    let numbered = ProxyNumbered { req };
+    let heard = Hearing {
         alloc,
-        &mut known.proxies.items,
-        req,
         branch,
         sess,
         response,
         now,
-    )
+    };
+    known
+        .proxies
+        .change_first(Scope::Number(req.0), &numbered, &heard)
 }
 
 // The options of the proxy of the request that began the SipSession.

@@ -1,8 +1,7 @@
 //! Copies of what an application session knows of a response's request.
 
-ghost use Rattle.std.specs.Prelude.{◌≡◌, position, IfOk};
+ghost use Rattle.std.specs.Prelude.{◌≡◌, IfOk};
 ghost use Rattle.std.specs.List.{find};
-ghost use Rattle.std.specs.Option.{option_copied};
 ghost use Rattle.sc_hosts.specs.Branches.{has_branch};
 ghost use Rattle.sc_hosts.specs.Looking.{session_in, timer_in};
 ghost use Rattle.sc_hosts.specs.Preparing.{is_invited, kept_of, proxy_of};
@@ -11,6 +10,7 @@ ghost use Rattle.sc_hosts.specs.PreparingResponses.{is_sent_on};
 use sc_branches::has_branch;
 use sc_effects::{kept_of, proxy_of};
 use sc_looking::{session_in, timer_in};
+use sc_pages::{Probe, Scope};
 use sc_state::{Invited, Kept, Known, Proxy, Way};
 use sc_terms::{SessionView, TimerView, View};
 use sc_value::{CloneIn, NoMemory, ReqId, SessId, TimerId};
@@ -69,19 +69,17 @@ fn is_sent_on(kept: &Kept, branch: u64) -> bool
     }
 }
 
-fn sent_place(kept: &[Kept], branch: u64) -> Option<usize>
-    ensures { result ≡ position (is_sent_on branch) kept.now }
-{
-    kept.iter().position(|kept| is_sent_on(kept, branch))
+// Whether a kept request was sent on this branch.
+#[derive(Clone, Copy)]
+struct SentOn {
+    branch: u64,
 }
 
-#[tactic(auto, using(sc_value::proofs::ListFacts::find_position, sc_value::proofs::ListFacts::find_none))]
-fn sent_among(kept: &[Kept], branch: u64) -> Option<&Kept>
-    ensures { option_copied result ≡ find (is_sent_on branch) kept.now }
-{
-    match sent_place(kept, branch) {
-        Some(at) => Some(&kept[at]),
-        None => None,
+impl Probe<Kept> for SentOn {
+    ghost passes = { λ p. is_sent_on p.branch };
+
+    fn passes(&self, kept: &Kept) -> bool {
+        is_sent_on(kept, self.branch)
     }
 }
 
@@ -89,25 +87,23 @@ fn sent_among(kept: &[Kept], branch: u64) -> Option<&Kept>
 pub fn sent_copy(alloc: Global, known: &Known, branch: u64) -> Result<Option<Kept>, NoMemory>
     ensures { IfOk result (λ k. k ≡ find (is_sent_on branch) known.now.kept) }
 {
-    match sent_among(known.kept.as_slice(), branch) {
+    match known.kept.find(Scope::All, &SentOn { branch }) {
         Some(kept) => Ok(Some(kept.clone_in(alloc)?)),
         None => Ok(None),
     }
 }
 
-fn branch_place(proxies: &[Proxy], branch: u64) -> Option<usize>
-    ensures { result ≡ position (has_branch branch) proxies.now }
-{
-    proxies.iter().position(|proxy| has_branch(branch, proxy))
+// Whether a proxied request has this branch.
+#[derive(Clone, Copy)]
+struct Branching {
+    branch: u64,
 }
 
-#[tactic(auto, using(sc_value::proofs::ListFacts::find_position, sc_value::proofs::ListFacts::find_none))]
-fn branch_among(proxies: &[Proxy], branch: u64) -> Option<&Proxy>
-    ensures { option_copied result ≡ find (has_branch branch) proxies.now }
-{
-    match branch_place(proxies, branch) {
-        Some(at) => Some(&proxies[at]),
-        None => None,
+impl Probe<Proxy> for Branching {
+    ghost passes = { λ p. has_branch p.branch };
+
+    fn passes(&self, proxy: &Proxy) -> bool {
+        has_branch(self.branch, proxy)
     }
 }
 
@@ -115,25 +111,23 @@ fn branch_among(proxies: &[Proxy], branch: u64) -> Option<&Proxy>
 pub fn branch_copy(alloc: Global, known: &Known, branch: u64) -> Result<Option<Proxy>, NoMemory>
     ensures { IfOk result (λ p. p ≡ find (has_branch branch) known.now.proxies) }
 {
-    match branch_among(known.proxies.as_slice(), branch) {
+    match known.proxies.find(Scope::All, &Branching { branch }) {
         Some(proxy) => Ok(Some(proxy.clone_in(alloc)?)),
         None => Ok(None),
     }
 }
 
-fn invited_place(invited: &[Invited], event: u64) -> Option<usize>
-    ensures { result ≡ position (is_invited event) invited.now }
-{
-    invited.iter().position(|invited| invited.event == event)
+// Whether an INVITE came under this event's number.
+#[derive(Clone, Copy)]
+struct CameBy {
+    event: u64,
 }
 
-#[tactic(auto, using(sc_value::proofs::ListFacts::find_position, sc_value::proofs::ListFacts::find_none))]
-fn invited_among(invited: &[Invited], event: u64) -> Option<Invited>
-    ensures { result ≡ find (is_invited event) invited.now }
-{
-    match invited_place(invited, event) {
-        Some(at) => Some(invited[at]),
-        None => None,
+impl Probe<Invited> for CameBy {
+    ghost passes = { λ p. is_invited p.event };
+
+    fn passes(&self, invited: &Invited) -> bool {
+        invited.event == self.event
     }
 }
 
@@ -141,5 +135,8 @@ fn invited_among(invited: &[Invited], event: u64) -> Option<Invited>
 pub fn invited_by(known: &Known, event: u64) -> Option<Invited>
     ensures { result ≡ find (is_invited event) known.now.invited }
 {
-    invited_among(known.invited.as_slice(), event)
+    match known.invited.find(Scope::All, &CameBy { event }) {
+        Some(invited) => Some(*invited),
+        None => None,
+    }
 }

@@ -95,10 +95,9 @@ fn responded_view(
         response.now.code view.old))) }
 {
     let tagged = tag(&response.head.to).is_some();
-    answered_in(view, sess, request, tagged, response.code);
-    success_in(&mut view.requests.items, request.id, sess, response)?;
-    tidy(view);
-    Ok(())
+    answered_in(view, sess, request, tagged, response.code)?;
+    success_in(&mut view.requests, request.id, sess, response)?;
+    tidy(view)
 }
 
 // A response handled in this SipSession.
@@ -127,10 +126,10 @@ fn responded(
 
 // The final response is noted with its request.
 #[tactic(auto, unfolding(sc_hosts::specs::PreparingResponses::noted_final))]
-fn noted_final(session: &mut Session, req: ReqId, code: u16)
-    ensures { session.new ≡ noted_final req code session.old }
+fn noted_final(session: &mut Session, req: ReqId, code: u16) -> Result<(), NoMemory>
+    ensures { OnOk result (session.new ≡ noted_final req code session.old) }
 {
-    final_noted(&mut session.view, req, code);
+    final_noted(&mut session.view, req, code)
 }
 
 // A response handled in this SipSession and shown.
@@ -169,7 +168,7 @@ fn responded_in(
         ≡ prepared_as session.new s) }
 {
     if is_gone_in(&session.view, sess) {
-        noted_final(session, kept.id, response.get().code);
+        noted_final(session, kept.id, response.get().code)?;
         return Ok(silent(List::new(alloc)));
     }
     responded_shown(alloc, session, kept, request, response, sess)

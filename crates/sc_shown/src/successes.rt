@@ -6,8 +6,9 @@ ghost use Rattle.sc_hosts.specs.Looking.{is_request};
 ghost use Rattle.sc_hosts.specs.PreparingResponses.{insert_session, with_success};
 ghost use Rattle.sc_shown.specs.Shown.{follows};
 
-use sc_looking::request_place;
+use sc_looking::Numbered;
 use sc_methods::{is_invite, is_success};
+use sc_pages::{Change, Pages, Scope};
 use sc_terms::RequestView;
 use sc_value::{List, NoMemory, ReqId, Response, SessId};
 
@@ -56,10 +57,24 @@ fn with_success(
     Ok(())
 }
 
+// A 2xx in a SipSession.
+#[derive(Clone, Copy)]
+struct Succeeded<'a> {
+    sess: SessId,
+    response: &'a Response,
+}
+
+impl Change<RequestView> for Succeeded<'_> {
+    ghost changed = { λ p. with_success p.sess p.response.now };
+
+    fn change(&self, request: &mut RequestView) -> Result<(), NoMemory> {
+        with_success(request, self.sess, self.response)
+    }
+}
+
 /// Notes that a 2xx to an INVITE came in a SipSession, which then waits for its ACK.
-#[tactic(auto, using(sc_value::proofs::ListFacts::change_first_position, sc_value::proofs::ListFacts::change_first_none))]
 pub fn success_in(
-    requests: &mut [RequestView],
+    requests: &mut Pages<RequestView>,
     req: ReqId,
     sess: SessId,
     response: &Response,
@@ -68,8 +83,6 @@ pub fn success_in(
         (requests.new
         ≡ change_first (is_request req) (with_success sess response.now) requests.old) }
 {
-    match request_place(requests, req) {
-        Some(at) => with_success(&mut requests[at], sess, response),
-        None => Ok(()),
-    }
+    let succeeded = Succeeded { sess, response };
+    requests.change_first(Scope::Number(req.0), &Numbered { req }, &succeeded)
 }

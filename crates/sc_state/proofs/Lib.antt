@@ -1,4 +1,5 @@
-pub mod LeastDue
 pub mod AllLaws
 pub mod KeptLaws
+pub mod LeastDue
 pub mod NumberLaws
+pub mod RestingLaws

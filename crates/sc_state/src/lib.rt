@@ -12,6 +12,7 @@ mod keyed;
 mod lists;
 mod net;
 mod orders;
+mod paged;
 mod probes;
 mod proxy;
 mod queue;

@@ -1,5 +1,6 @@
 use crate::Proxy;
 use sc_dialog::Dialog;
+use sc_pages::Pages;
 use sc_terms::View;
 use sc_value::{List, Region, ReqId, Request, SessId, Shared, Text};
 
@@ -66,10 +67,10 @@ pub struct Known {
     /// One for each SipSession, by its number.
     pub legs: List<Leg>,
     /// In order of number.
-    pub kept: List<Kept>,
-    pub invited: List<Invited>,
+    pub kept: Pages<Kept>,
+    pub invited: Pages<Invited>,
     /// In order of the requests' numbers.
-    pub proxies: List<Proxy>,
+    pub proxies: Pages<Proxy>,
 }
 
 /// What an application session is between its turns.

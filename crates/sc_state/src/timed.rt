@@ -5,6 +5,7 @@ ghost use Rattle.std.specs.List.{flat_map};
 ghost use Rattle.sc_state.specs.Entries.{SessionEntry, expiry_entry, timer_entry, branch_entry, entries_of, is_fired, lower, least_due};
 
 use crate::{Branch, Fired, Proxy, Session};
+use sc_pages::{Page, Pages};
 use sc_parts::TimerName;
 use sc_terms::TimerView;
 
@@ -24,7 +25,7 @@ impl Timed for Session {
     fn least_due(&self, fired: &[Fired]) -> Option<u64> {
         let expiry = expiry_due(self.view.expires, fired);
         let timers = timers_due(self.view.timers.as_slice(), fired);
-        let branches = proxies_due(self.known.proxies.as_slice(), fired);
+        let branches = all_due(&self.known.proxies, fired);
         lower(lower(expiry, timers), branches)
     }
 }
@@ -111,4 +112,40 @@ fn proxies_due(proxies: &[Proxy], fired: &[Fired]) -> Option<u64>
         least = lower(least, branches_due(proxy.branches.as_slice(), fired));
     }
     least
+}
+
+#[tactic(auto, using(crate::proofs::RestingLaws::none_due))]
+fn page_due(page: &Page<Proxy>, fired: &[Fired]) -> Option<u64>
+    ensures { result
+        ≡ least_due fired.now
+        (flat_map (λ proxy. flat_map branch_entry proxy.branches) page.now) }
+{
+    if page.rests() {
+        return None;
+    }
+    proxies_due(page.items(), fired)
+}
+
+#[tactic(auto, using(crate::proofs::LeastDue::least_none, crate::proofs::LeastDue::least_both))]
+fn pages_due(pages: &[Page<Proxy>], fired: &[Fired]) -> Option<u64>
+    ensures { result
+        ≡ least_due fired.now
+        (flat_map (λ page. flat_map (λ proxy. flat_map branch_entry proxy.branches) page)
+        pages.now) }
+{
+    let mut least = None;
+    for page in pages {
+        least = lower(least, page_due(page, fired));
+    }
+    least
+}
+
+#[tactic(auto, using(crate::proofs::RestingLaws::with_newest))]
+fn all_due(proxies: &Pages<Proxy>, fired: &[Fired]) -> Option<u64>
+    ensures { result
+        ≡ least_due fired.now
+        (flat_map (λ proxy. flat_map branch_entry proxy.branches) proxies.now) }
+{
+    let (pages, newest) = proxies.parts();
+    lower(pages_due(pages, fired), proxies_due(newest, fired))
 }

@@ -9,6 +9,7 @@ mod copies;
 mod events;
 mod inside;
 mod ranges;
+mod resting;
 mod settings;
 mod steps;
 mod views;

@@ -1,5 +1,6 @@
 //! What a turn shows of an application session (JSR 289 sections 6 and 7).
 
+use sc_pages::Pages;
 use sc_value::{AppId, Field, HeaderValue, List, ReqId, SessId, Text, TimerId, Token};
 
 /// The state of a SipSession (JSR 289 section 6.2.1).
@@ -114,7 +115,7 @@ pub struct View {
     /// All SipSessions in order of number, those that are gone too.
     pub sessions: List<SessionView>,
     /// The requests that calls can name, in order of number.
-    pub requests: List<RequestView>,
+    pub requests: Pages<RequestView>,
     /// The active timers in order of number.
     pub timers: List<TimerView>,
 }

@@ -4,6 +4,7 @@ ghost use Rattle.std.specs.Prelude.{◌≡◌, ◌++◌, [], ◌∷◌, IfOk, On
 ghost use Rattle.std.specs.List.{flat_map};
 ghost use Rattle.sc_hosts.specs.Sessions.{expiry_entry, timer_entry, branch_entry, entries_of};
 
+use sc_pages::{Page, Pages};
 use sc_parts::TimerName;
 use sc_state::{Branch, Proxy, Queued, Session};
 use sc_terms::TimerView;
@@ -103,6 +104,30 @@ fn put_proxies(proxies: &[Proxy], out: &mut List<SessionEntry>) -> Result<(), No
     Ok(())
 }
 
+fn put_pages(pages: &[Page<Proxy>], out: &mut List<SessionEntry>) -> Result<(), NoMemory>
+    ensures { OnOk result
+        (out.new
+        ≡ out.old
+        ++ flat_map (λ page. flat_map (λ proxy. flat_map branch_entry proxy.branches) page)
+        pages.now) }
+{
+    for page in pages {
+        put_proxies(page.items(), out)?;
+    }
+    Ok(())
+}
+
+#[tactic(auto, using(sc_pages::proofs::PagesLaws::flat_parts))]
+fn put_all(proxies: &Pages<Proxy>, out: &mut List<SessionEntry>) -> Result<(), NoMemory>
+    ensures { OnOk result
+        (out.new
+        ≡ out.old ++ flat_map (λ proxy. flat_map branch_entry proxy.branches) proxies.now) }
+{
+    let (pages, newest) = proxies.parts();
+    put_pages(pages, out)?;
+    put_proxies(newest, out)
+}
+
 /// All that runs in a session: its expiry, its timers and those of its branches.
 #[tactic(auto, unfolding(sc_hosts::specs::Sessions::entries_of))]
 pub fn entries_of(alloc: Global, session: &Session) -> Result<List<SessionEntry>, NoMemory>
@@ -111,6 +136,6 @@ pub fn entries_of(alloc: Global, session: &Session) -> Result<List<SessionEntry>
     let mut entries = List::new(alloc);
     put_expiry(session.view.expires, &mut entries)?;
     put_timers(session.view.timers.as_slice(), &mut entries)?;
-    put_proxies(session.known.proxies.as_slice(), &mut entries)?;
+    put_all(&session.known.proxies, &mut entries)?;
     Ok(entries)
 }

@@ -4,8 +4,9 @@ ghost use Rattle.std.specs.Prelude.{◌≡◌, ◌==◌, ◌&&◌, ◌||◌};
 ghost use Rattle.std.specs.List.{list_any};
 ghost use Rattle.sc_parts.specs.TimerNames.{same_timer};
 ghost use Rattle.sc_hosts.specs.Sessions.{expiry_entry, timer_entry, branch_entry, entries_of};
-ghost use Rattle.sc_ticks.specs.Running.{is_entry};
+ghost use Rattle.sc_ticks.specs.TimerRuns.{is_entry};
 
+use sc_pages::{Probe, Scope};
 use sc_parts::TimerName;
 use sc_state::{Branch, Proxy, Session};
 use sc_terms::TimerView;
@@ -50,16 +51,20 @@ fn branches_run(branches: &[Branch], due: u64, name: TimerName) -> bool
     branches.iter().any(|branch| branch_runs(branch, due, name))
 }
 
-fn proxies_run(proxies: &[Proxy], due: u64, name: TimerName) -> bool
-    ensures { result
-        ≡ list_any
-        (λ proxy.
-        list_any (λ branch. list_any (is_entry due name) (branch_entry branch))
-        proxy.branches) proxies.now }
-{
-    proxies
-        .iter()
-        .any(|proxy| branches_run(proxy.branches.as_slice(), due, name))
+// Whether a timer of a branch of a proxied request runs.
+#[derive(Clone, Copy)]
+struct TimerRuns {
+    due: u64,
+    name: TimerName,
+}
+
+impl Probe<Proxy> for TimerRuns {
+    ghost passes = { λ p proxy.
+        list_any (λ branch. list_any (is_entry p.due p.name) (branch_entry branch)) proxy.branches };
+
+    fn passes(&self, proxy: &Proxy) -> bool {
+        branches_run(proxy.branches.as_slice(), self.due, self.name)
+    }
 }
 
 fn parts_run(session: &Session, due: u64, name: TimerName) -> bool
@@ -73,7 +78,10 @@ fn parts_run(session: &Session, due: u64, name: TimerName) -> bool
 {
     expiry_runs(session.view.expires, due, name)
         || timers_run(session.view.timers.as_slice(), due, name)
-        || proxies_run(session.known.proxies.as_slice(), due, name)
+        || session
+            .known
+            .proxies
+            .any(Scope::All, &TimerRuns { due, name })
 }
 
 /// Whether the timer of this name, due at this moment in milliseconds, runs in the session.

@@ -8,6 +8,7 @@
 //! 13 of SipSession 10 was answered 180, and INVITE 14 of 11, which was sent, 486.
 
 use crate::rows::{RequestRow, SessionRow, request_rows, session_rows};
+use sc_pages::Pages;
 use sc_terms::{Period, RequestView, SessionView, TimerView, View};
 use sc_turn::Turn;
 use sc_value::{AppId, HeaderValue, List, NoMemory, ReqId, SessId, Shared, Text, TimerId, Token};
@@ -83,8 +84,8 @@ fn sessions(alloc: Global) -> Result<List<SessionView>, NoMemory> {
     Ok(sessions)
 }
 
-fn requests(alloc: Global) -> Result<List<RequestView>, NoMemory> {
-    let mut requests = List::new(alloc);
+fn requests(alloc: Global) -> Result<Pages<RequestView>, NoMemory> {
+    let mut requests = Pages::new(alloc);
     for row in &request_rows() {
         requests.push(request_view(alloc, row)?)?;
     }

@@ -13,6 +13,7 @@ ghost use Rattle.sc_model.specs.BestResponses.{server_error};
 use sc_branches::is_invite;
 use sc_effects::{is_owed, kept_of};
 use sc_legs::leg_place;
+use sc_pages::{Page, Pages};
 use sc_sending::answers;
 use sc_state::{Branch, Kept, Known, Leg, Order, Proxy, Way, Working};
 use sc_terms::{Answer, Config, RequestView, View};
@@ -100,6 +101,47 @@ fn all_owed(
         owed_by(alloc, config, view, known, whose, request, orders)?;
     }
     Ok(())
+}
+
+fn all_owed_of_pages(
+    alloc: Global,
+    config: &Config,
+    view: &View,
+    known: &Known,
+    whose: Option<SessId>,
+    pages: &[Page<RequestView>],
+    orders: &mut List<Order>,
+) -> Result<(), NoMemory>
+    ensures { OnOk result
+        (orders.new
+        ≡ orders.old
+        ++ flat_map (λ page. flat_map (owed_by config.now view.entry.now known.now whose) page)
+        pages.now) }
+{
+    for page in pages {
+        all_owed(alloc, config, view, known, whose, page.items(), orders)?;
+    }
+    Ok(())
+}
+
+#[tactic(auto, using(sc_pages::proofs::PagesLaws::flat_parts))]
+fn all_owed_in(
+    alloc: Global,
+    config: &Config,
+    view: &View,
+    known: &Known,
+    whose: Option<SessId>,
+    orders: &mut List<Order>,
+) -> Result<(), NoMemory>
+    ensures { OnOk result
+        (orders.new
+        ≡ orders.old
+        ++ flat_map (owed_by config.now view.entry.now known.now whose)
+        view.entry.now.requests) }
+{
+    let (pages, newest) = view.requests.parts();
+    all_owed_of_pages(alloc, config, view, known, whose, pages, orders)?;
+    all_owed(alloc, config, view, known, whose, newest, orders)
 }
 
 fn number_place(numbers: &[u64], number: u64) -> Option<usize>
@@ -202,6 +244,64 @@ fn all_proxies(
     Ok(())
 }
 
+fn all_kept_of_pages(
+    whose: Option<SessId>,
+    pages: &[Page<Kept>],
+    numbers: &mut Vec<u64>,
+) -> Result<(), NoMemory>
+    ensures { OnOk result
+        (numbers.new.items
+        ≡ numbers.old.items ++ flat_map (λ page. flat_map (kept_branches whose) page) pages.now) }
+{
+    for page in pages {
+        all_kept(whose, page.items(), numbers)?;
+    }
+    Ok(())
+}
+
+#[tactic(auto, using(sc_pages::proofs::PagesLaws::flat_parts))]
+fn all_kept_in(
+    whose: Option<SessId>,
+    kept: &Pages<Kept>,
+    numbers: &mut Vec<u64>,
+) -> Result<(), NoMemory>
+    ensures { OnOk result
+        (numbers.new.items ≡ numbers.old.items ++ flat_map (kept_branches whose) kept.now) }
+{
+    let (pages, newest) = kept.parts();
+    all_kept_of_pages(whose, pages, numbers)?;
+    all_kept(whose, newest, numbers)
+}
+
+fn all_proxies_of_pages(
+    whose: Option<SessId>,
+    pages: &[Page<Proxy>],
+    numbers: &mut Vec<u64>,
+) -> Result<(), NoMemory>
+    ensures { OnOk result
+        (numbers.new.items
+        ≡ numbers.old.items ++ flat_map (λ page. flat_map (proxy_branches whose) page) pages.now) }
+{
+    for page in pages {
+        all_proxies(whose, page.items(), numbers)?;
+    }
+    Ok(())
+}
+
+#[tactic(auto, using(sc_pages::proofs::PagesLaws::flat_parts))]
+fn all_proxies_in(
+    whose: Option<SessId>,
+    proxies: &Pages<Proxy>,
+    numbers: &mut Vec<u64>,
+) -> Result<(), NoMemory>
+    ensures { OnOk result
+        (numbers.new.items ≡ numbers.old.items ++ flat_map (proxy_branches whose) proxies.now) }
+{
+    let (pages, newest) = proxies.parts();
+    all_proxies_of_pages(whose, pages, numbers)?;
+    all_proxies(whose, newest, numbers)
+}
+
 // The branches of the INVITEs that were sent, in their order.
 #[tactic(auto, using(crate::proofs::Pieced::invite_branches_are))]
 fn invite_branches(
@@ -213,8 +313,8 @@ fn invite_branches(
         (λ numbers. numbers.items ≡ in_order (invite_branches (is_whose whose) known.now)) }
 {
     let mut numbers = Vec::new(alloc);
-    all_kept(whose, known.kept.as_slice(), &mut numbers)?;
-    all_proxies(whose, known.proxies.as_slice(), &mut numbers)?;
+    all_kept_in(whose, &known.kept, &mut numbers)?;
+    all_proxies_in(whose, &known.proxies, &mut numbers)?;
     in_order(alloc, numbers.as_slice())
 }
 
@@ -248,8 +348,7 @@ fn goodbyes(
         (orders.new ≡ orders.old ++ goodbyes config.now view.entry.now known.now (is_whose whose)) }
 {
     let branches = invite_branches(alloc, whose, known)?;
-    let requests = view.requests.as_slice();
-    all_owed(alloc, config, view, known, whose, requests, orders)?;
+    all_owed_in(alloc, config, view, known, whose, orders)?;
     all_cancelled(branches.as_slice(), orders)?;
     Ok(())
 }
@@ -269,8 +368,7 @@ pub fn owed_all(
         ++ flat_map (owed_by config.now view.entry.now known.now None)
         view.entry.now.requests) }
 {
-    let requests = view.requests.as_slice();
-    all_owed(alloc, config, view, known, None, requests, orders)
+    all_owed_in(alloc, config, view, known, None, orders)
 }
 
 /// Puts the CANCELs that the end of all SipSessions sends at the end of a list: one to each INVITE

@@ -72,10 +72,7 @@ pub fn does(
             *options,
             &mut working.known,
         ),
-        Call::ProxyCancel { req } => {
-            stop_proxy(&mut working.known, *req);
-            Ok(())
-        }
+        Call::ProxyCancel { req } => { stop_proxy(&mut working.known, *req) }
         Call::B2bRespond { sess, answer } => {
             answering_begun(alloc, config, *sess, answer, working)
         }

@@ -1,0 +1,7 @@
+use Rattle.std.proofs.Common.{◌≡◌, ◌++◌, take}
+use Rattle.std.specs.List.{flat_map}
+use Rattle.sc_work.specs.Goodbyes.{proxy_branches}
+use Rattle.sc_work.proofs.ending.all_proxies_of_pages.Given as goal
+
+abbrev pub invariant-loop-page : goal.invariant-loop-page
+invariant-loop-page l = l.numbers.items ≡ l.fn.numbers.items ++ flat_map (λ page. flat_map (proxy_branches l.whose) page) (take l.page-index l.pages)
