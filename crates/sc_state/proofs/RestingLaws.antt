@@ -62,3 +62,9 @@ pub with_newest : (fired : List Fired) (all : List Proxy) (pages : List (List Pr
     → lower (least_due fired (flat_map (λ page. flat_map entries page) pages)) (least_due fired (flat_map entries newest)) ≡ least_due fired (flat_map entries all)
 with_newest fired all pages newest is =
     sym (least_both fired (flat_map (λ page. flat_map entries page) pages) (flat_map entries newest)) ∙ ap (least_due fired) (sym (flat_all entries all pages newest is))
+
+pub due_of_parts : (fired : List Fired) (all : List Proxy) (pages : List (List Proxy)) (newest : List Proxy) (due own least : Option _) → least ≡ lower due own
+    → due ≡ least_due fired (flat_map (λ page. flat_map entries page) pages) → own ≡ least_due fired (flat_map entries newest) → all ≡ joined pages ++ newest → least ≡ least_due fired (flat_map entries all)
+due_of_parts fired all pages newest due own least is of_pages of_newest parts =
+    is ∙ ap (λ d. lower d own) of_pages ∙ ap (lower (least_due fired (flat_map (λ page. flat_map entries page) pages))) of_newest
+    ∙ with_newest fired all pages newest parts

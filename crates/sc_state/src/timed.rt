@@ -140,7 +140,6 @@ fn pages_due(pages: &[Page<Proxy>], fired: &[Fired]) -> Option<u64>
     least
 }
 
-#[tactic(auto, using(crate::proofs::RestingLaws::with_newest))]
 fn all_due(proxies: &Pages<Proxy>, fired: &[Fired]) -> Option<u64>
     ensures { result
         ≡ least_due fired.now
