@@ -31,7 +31,6 @@ fn branches_of_pages(pages: &[Page<RequestView>]) -> u64
     sum
 }
 
-#[tactic(auto, using(crate::proofs::BranchSums::with_newest))]
 fn branches_of_all(requests: &Pages<RequestView>) -> u64
     ensures { result ≡ min (sum_by (λ request. request.branches) requests.now) u64.MAX }
 {
