@@ -32,7 +32,7 @@ impl Probe<RequestView> for FirstOf {
 }
 
 /// The initial request that was sent in a SipSession.
-#[tactic(auto, unfolding(sc_hosts::specs::Charters::sent_initial))]
+#[tactic(auto, unfolding(sc_hosts::specs::Charters::sent_initial), using(sc_terms::proofs::RestLaws::initial_busy))]
 fn sent_initial(view: &View, sess: SessId) -> Option<ReqId>
     ensures { result ≡ option_map (λ request. request.id) (sent_initial view.entry.now sess) }
 {

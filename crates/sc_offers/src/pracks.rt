@@ -59,6 +59,7 @@ impl Probe<RequestView> for InviteOf {
 
 /// The first received INVITE that began this SipSession; None exactly where none did. It takes no
 /// memory.
+#[tactic(auto, unfolding(sc_hosts::specs::Offers::is_invite_of), using(sc_terms::proofs::RestLaws::initial_busy))]
 pub fn invite_of(view: &View, sess: SessId) -> Option<ReqId>
     ensures { result
         ≡ option_map (λ request. request.id) (find (is_invite_of sess) view.entry.now.requests) }

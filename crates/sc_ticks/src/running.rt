@@ -4,7 +4,7 @@ ghost use Rattle.std.specs.Prelude.{◌≡◌, ◌==◌, ◌&&◌, ◌||◌};
 ghost use Rattle.std.specs.List.{list_any};
 ghost use Rattle.sc_parts.specs.TimerNames.{same_timer};
 ghost use Rattle.sc_hosts.specs.Sessions.{expiry_entry, timer_entry, branch_entry, entries_of};
-ghost use Rattle.sc_ticks.specs.TimerRuns.{is_entry};
+ghost use Rattle.sc_ticks.specs.Running.{is_entry};
 
 use sc_pages::{Probe, Scope};
 use sc_parts::TimerName;

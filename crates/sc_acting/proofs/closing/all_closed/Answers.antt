@@ -1,6 +1,6 @@
 use Rattle.std.proofs.Common.{arith}
 use Rattle.sc_hosts.specs.Acting.{closed_session}
-use Rattle.sc_effects.proofs.Steps.{map_step}
+use Rattle.sc_pages.proofs.Steps.{map_step}
 use Rattle.sc_acting.proofs.closing.all_closed.Goals as goal
 
 pub loop-i-preserved : goal.loop-i-preserved

@@ -1,6 +1,6 @@
 use Rattle.std.proofs.Common.{arith}
 use Rattle.sc_hosts.specs.DerivedSessions.{overtaken_session}
-use Rattle.sc_effects.proofs.Steps.{map_step}
+use Rattle.sc_pages.proofs.Steps.{map_step}
 use Rattle.sc_derived.proofs.ending.overtaken_sessions.Goals as goal
 
 pub loop-i-preserved : goal.loop-i-preserved
