@@ -38,7 +38,8 @@ unfolding can_choose
 none_to_choose proxy e = ap (λ b. not (not b && not (has_open proxy) && length proxy.targets == 0 && is_none proxy.forwarded)) e
 
 together : (a b c d e : Bool) → a ≡ true → b ≡ true → c ≡ true → d ≡ true → e ≡ true → (a && b && c && d && e) ≡ true
-together a b c d e refl refl refl refl refl = refl
+together a b c d e first second third fourth fifth =
+    ap (λ z. z && b && c && d && e) first ∙ ap (λ z. z && c && d && e) second ∙ ap (λ z. z && d && e) third ∙ ap (λ z. z && e) fourth ∙ fifth
 
 resting_quiet : (proxy : Proxy) → is_resting proxy ≡ true → is_quiet proxy ≡ true
 unfolding is_resting is_quiet

@@ -137,7 +137,8 @@ fn acted(
     let chosen = proxy_now(alloc, proxy, working)?;
     sends_cancels(alloc, proxy, working)?;
     closes(&chosen, working);
-    rest(&mut working.known, proxy.req)
+    rest(&mut working.known, proxy.req)?;
+    Ok(())
 }
 
 #[tactic(auto, unfolding(sc_hosts::specs::Acting::acts))]

@@ -164,7 +164,6 @@ impl Probe<Kept> for StillNeeded<'_> {
 }
 
 // Those of which the request rests are needed.
-#[tactic(auto, using(crate::proofs::Needed::resting_needed))]
 fn keep_needed(view: &View, legs: &[Leg], kept: &mut Pages<Kept>) -> Result<(), NoMemory>
     ensures { OnOk result (kept.new ≡ filter (can_be_needed view.entry.now legs.now) kept.old) }
 {
