@@ -5,4 +5,5 @@ pub mod PagesLaws
 pub mod RunLaws
 pub mod SameLaws
 pub mod ScopeLaws
+pub mod ShelfLaws
 pub mod Steps

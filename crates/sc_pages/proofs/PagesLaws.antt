@@ -39,7 +39,7 @@ record At {A : Type 0} (p : A → Bool) (pages : List (List A)) (at : ℕ) : Typ
 at_place : {A : Type 0} (p : A → Bool) (pages : List (List A)) (at : ℕ) → position (list_any p) pages ≡ Some at → At p pages at
 at_place p pages at is = record { in_range = grind (arith, nat_tests); placed = grind (arith, nat_tests) }
 
-nowhere : {A : Type 0} (p : A → Bool) (pages : List (List A)) → position (list_any p) pages ≡ None → length pages ≤ position_or_len (list_any p) pages
+pub nowhere : {A : Type 0} (p : A → Bool) (pages : List (List A)) → position (list_any p) pages ≡ None → length pages ≤ position_or_len (list_any p) pages
 nowhere p pages is = grind (arith, nat_tests)
 
 -- a list of pages, at the first that has one
@@ -93,7 +93,7 @@ module _ {A : Type 0} (p : A → Bool) where
   pub found_in_page : (pages : List (List A)) (newest page : List A) (at : ℕ) → position (list_any p) pages ≡ Some at → page ≡ get_or pages at page → find p page ≡ find p (joined pages ++ newest)
   found_in_page pages newest page at placed is = let here = at_place p pages at placed in sym (find_at_place pages newest page at here.in_range here.placed is)
 
-  none_in_pages : (pages : List (List A)) → length pages ≤ position_or_len (list_any p) pages → list_any p (joined pages) ≡ false
+  pub none_in_pages : (pages : List (List A)) → length pages ≤ position_or_len (list_any p) pages → list_any p (joined pages) ≡ false
   none_in_pages [] past = refl
   none_in_pages (first ∷ pages) past = by (none_in_pages pages) (list_any p first) refl (subst (λ n. length (first ∷ pages) ≤ n) (first_cons p first pages (list_any p first) refl) past)
     where
@@ -150,13 +150,13 @@ module _ {A : Type 0} (p : A → Bool) where
 
 -- ## All items
 
-joined_map : {A : Type 0} (f : A → A) (pages : List (List A)) → joined (map (map f) pages) ≡ map f (joined pages)
+pub joined_map : {A : Type 0} (f : A → A) (pages : List (List A)) → joined (map (map f) pages) ≡ map f (joined pages)
 joined_map f [] = refl
 joined_map f (page ∷ pages) = ap (λ l. map f page ++ l) (joined_map f pages) ∙ sym (map_append f page (joined pages))
 
-pub all_changed : {A : Type 0} (f : A → A) (old new : List (List A)) (old_newest newest : List A) → new ≡ map (map f) old → newest ≡ map f old_newest → joined new ++ newest ≡ map f (joined old ++ old_newest)
+pub all_changed : {A : Type 0} (f : A → A) (old new old_newest newest : List A) → new ≡ map f old → newest ≡ map f old_newest → new ++ newest ≡ map f (old ++ old_newest)
 all_changed f old new old_newest newest pages_are newest_is =
-    ap (λ l. joined l ++ newest) pages_are ∙ ap (λ l. l ++ newest) (joined_map f old) ∙ ap (λ l. map f (joined old) ++ l) newest_is ∙ sym (map_append f (joined old) old_newest)
+    ap (λ l. l ++ newest) pages_are ∙ ap (λ l. map f old ++ l) newest_is ∙ sym (map_append f old old_newest)
 
 pub all_passing : {A : Type 0} (p : A → Bool) (old new old_newest newest : List A) → new ≡ filter p old → newest ≡ filter p old_newest → new ++ newest ≡ filter p (old ++ old_newest)
 all_passing p old new old_newest newest pages_are newest_is =

@@ -8,6 +8,7 @@ ghost use Rattle.sc_pages.specs.Outlines.{outline_of};
 ghost use Rattle.sc_pages.specs.Scopes.{is_in};
 
 use crate::outline::{Outline, outline_of};
+use crate::owning::own;
 use crate::scope::may_have;
 use crate::searching::{all_in, any_in};
 use crate::turning::{change_every, change_one, keep_passing};
@@ -151,36 +152,6 @@ impl<T: Paged> CloneIn for Page<T> {
             outline: self.outline,
         })
     }
-}
-
-// Whether nobody else has the items.
-fn is_own<T>(items: &mut Arc<List<T>>) -> bool
-    ensures { arc_value items.new ≡ arc_value items.old }
-{
-    match Arc::get_mut(items) {
-        Some(_) => true,
-        None => false,
-    }
-}
-
-fn copied<T: CloneIn>(alloc: Global, items: &List<T>) -> Result<Arc<List<T>>, NoMemory>
-    ensures { IfOk result (λ own. arc_value own ≡ items.now) }
-{
-    let own = items.clone_in(alloc)?;
-    let own = Arc::new(alloc, own)?;
-    Ok(own)
-}
-
-// Makes the items its own, where others have them.
-fn own<T: CloneIn>(alloc: Global, items: &mut Arc<List<T>>) -> Result<(), NoMemory>
-    ensures { OnOk result (arc_value items.new ≡ arc_value items.old) }
-{
-    if is_own(items) {
-        return Ok(());
-    }
-    let own = copied(alloc, items)?;
-    *items = own;
-    Ok(())
 }
 
 fn change_one_of<T: CloneIn, P: Probe<T>, C: Change<T>>(

@@ -8,12 +8,12 @@ ghost use Rattle.sc_queue.specs.Joined.{joined};
 ghost use Rattle.sc_pages.specs.Scopes.{is_in};
 ghost use Rattle.sc_pages.specs.Runs.{AllRest, are_within};
 
-use crate::changing::{change_pages_in, keep_outside_of, keep_pages};
 use crate::copies::{add_items, add_pages};
 use crate::page::Page;
 use crate::runs::{Run, add_runs};
 use crate::same::same_apart;
-use crate::searching::{any_in, first_in, page_with};
+use crate::searching::{any_in, first_in};
+use crate::shelf::Shelf;
 use crate::turning::{change_every_in, change_one_in, keep_passing};
 use crate::{Change, Paged, Probe, Scope};
 use sc_value::{CloneIn, List, NoMemory, Same};
@@ -24,12 +24,12 @@ use std::mem::replace;
 /// How many items a list has of its own at most.
 const MOST_OWN: usize = 32;
 
-/// A list of numbered items, all but the newest of which stand in pages. A copy costs one owner for
-/// each page, and a change makes a page of its own of the one that it touches.
+/// A list of numbered items, all but the newest of which stand in pages. A copy has the pages in
+/// common with it, and a change makes a page of its own of the one that it touches.
 #[derive(Drop)]
 pub struct Pages<T: Paged> {
     /// The older items.
-    pages: List<Page<T>>,
+    pages: Shelf<T>,
     /// The newest items.
     newest: List<T>,
     alloc: Global,
@@ -50,7 +50,7 @@ impl<T: Paged> Pages<T> {
         ensures { result ≡ [] }
     {
         Pages {
-            pages: List::new(alloc),
+            pages: Shelf::new(),
             newest: List::new(alloc),
             alloc,
         }
@@ -69,6 +69,7 @@ impl<T: Paged> Pages<T> {
     }
 
     // The newest items become a page.
+    #[inline(never)]
     #[tactic(auto, using(crate::proofs::PagesLaws::page_more))]
     fn turn_over(&mut self) -> Result<(), NoMemory>
         ensures { OnOk result (self.new ≡ self.old) }
@@ -76,7 +77,7 @@ impl<T: Paged> Pages<T> {
         let none = List::new(self.alloc);
         let items = replace(&mut self.newest, none);
         let page = Page::new(self.alloc, items)?;
-        self.pages.push(page)?;
+        self.pages.push(self.alloc, page)?;
         Ok(())
     }
 
@@ -86,7 +87,7 @@ impl<T: Paged> Pages<T> {
         requires { (x : T) → P.passes probe.now x ≡ true → is_in T.number T.rests scope x ≡ true }
         ensures { option_copied result ≡ find (P.passes probe.now) self.now }
     {
-        match page_with(self.pages.as_slice(), scope, probe) {
+        match self.pages.page_with(scope, probe) {
             Some(at) => first_in(self.pages.as_slice()[at].items(), probe),
             None => first_in(self.newest.as_slice(), probe),
         }
@@ -98,14 +99,14 @@ impl<T: Paged> Pages<T> {
         requires { (x : T) → P.passes probe.now x ≡ true → is_in T.number T.rests scope x ≡ true }
         ensures { result ≡ list_any (P.passes probe.now) self.now }
     {
-        match page_with(self.pages.as_slice(), scope, probe) {
+        match self.pages.page_with(scope, probe) {
             Some(_) => true,
             None => any_in(self.newest.as_slice(), probe),
         }
     }
 
     /// Changes the first item that passes, where there is one. All that pass are of the scope.
-    #[tactic(auto, using(crate::proofs::PagesLaws::changed_in_page, crate::proofs::PagesLaws::changed_behind))]
+    #[tactic(auto, using(crate::proofs::PagesLaws::changed_behind))]
     pub fn change_first<P: Probe<T>, C: Change<T>>(
         &mut self,
         scope: Scope,
@@ -116,8 +117,8 @@ impl<T: Paged> Pages<T> {
         ensures { OnOk result
             (self.new ≡ change_first (P.passes probe.now) (C.changed change.now) self.old) }
     {
-        match page_with(self.pages.as_slice(), scope, probe) {
-            Some(at) => self.pages.items[at].change_first(self.alloc, probe, change),
+        match self.pages.page_with(scope, probe) {
+            Some(at) => self.pages.change_page(self.alloc, at, probe, change),
             None => {
                 change_one_in(&mut self.newest, probe, change)?;
                 Ok(())
@@ -139,7 +140,7 @@ impl<T: Paged> Pages<T> {
         requires same { (x : T) → P.passes probe.now x ≡ false → C.changed change.now x ≡ x }
         ensures { OnOk result (self.new ≡ map (C.changed change.now) self.old) }
     {
-        change_pages_in(self.alloc, &mut self.pages, scope, probe, change)?;
+        self.pages.change_all(self.alloc, scope, probe, change)?;
         change_every_in(&mut self.newest, probe, change)?;
         Ok(())
     }
@@ -150,7 +151,7 @@ impl<T: Paged> Pages<T> {
         requires { (x : T) → P.passes probe.now x ≡ false → is_in T.number T.rests scope x ≡ true }
         ensures { OnOk result (self.new ≡ filter (P.passes probe.now) self.old) }
     {
-        keep_pages(self.alloc, &mut self.pages, scope, probe)?;
+        self.pages.keep(self.alloc, scope, probe)?;
         keep_passing(&mut self.newest, probe);
         Ok(())
     }
@@ -161,7 +162,7 @@ impl<T: Paged> Pages<T> {
         requires { (x : T) → are_within runs.now (T.number x) ≡ true → P.passes probe.now x ≡ true }
         ensures { OnOk result (self.new ≡ filter (P.passes probe.now) self.old) }
     {
-        keep_outside_of(self.alloc, &mut self.pages, runs, probe)?;
+        self.pages.keep_outside(self.alloc, runs, probe)?;
         keep_passing(&mut self.newest, probe);
         Ok(())
     }
@@ -189,7 +190,7 @@ impl<T: Paged> Pages<T> {
         ensures { IfOk result (λ runs. AllRest T.number T.rests self.now runs) }
     {
         let mut runs = List::new(self.alloc);
-        if self.pages.is_empty() {
+        if self.pages.is_bare() {
             return Ok(runs);
         }
         add_runs(self.pages.as_slice(), &mut runs)?;

@@ -59,6 +59,7 @@ fn put_run(next: Run, run: &mut Run, runs: &mut List<Run>) -> Result<(), NoMemor
 }
 
 /// Puts the runs of these pages at the end of a list.
+#[inline(never)]
 pub fn add_runs<T: Paged>(pages: &[Page<T>], runs: &mut List<Run>) -> Result<(), NoMemory>
     requires { AllRest T.number T.rests (joined pages.now) runs.old }
     ensures { OnOk result (AllRest T.number T.rests (joined pages.now) runs.new) }

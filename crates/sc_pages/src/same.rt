@@ -120,6 +120,7 @@ fn is_end<T: Paged>(pages: &[Page<T>], newest: &[T], spot: Spot) -> bool
 }
 
 /// Whether two lists in pages have the same items.
+#[inline(never)]
 #[tactic(auto, using(crate::proofs::SameLaws::pages_differ, crate::proofs::SameLaws::newest_differs, crate::proofs::SameLaws::end_same, crate::proofs::SameLaws::same_end))]
 pub fn same_apart<T: Paged + Same>(
     pages: &[Page<T>],

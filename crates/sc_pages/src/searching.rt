@@ -54,6 +54,7 @@ fn page_seen<T: Paged, P: Probe<T>>(pages: &[Page<T>], scope: Scope, probe: &P) 
 }
 
 /// The first page that has an item that passes. All that pass are of the scope.
+#[inline(never)]
 pub fn page_with<T: Paged, P: Probe<T>>(pages: &[Page<T>], scope: Scope, probe: &P) -> Option<usize>
     requires { (x : T) → P.passes probe.now x ≡ true → is_in T.number T.rests scope x ≡ true }
     ensures { result ≡ position (list_any (P.passes probe.now)) pages.now }

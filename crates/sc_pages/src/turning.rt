@@ -24,6 +24,7 @@ pub fn change_one<T, P: Probe<T>, C: Change<T>>(
 }
 
 /// Changes all items.
+#[inline(never)]
 #[tactic(auto, using(crate::proofs::Steps::map_step))]
 pub fn change_every<T, C: Change<T>>(items: &mut [T], change: &C) -> Result<(), NoMemory>
     ensures { OnOk result (items.new ≡ map (C.changed change.now) items.old) }
@@ -62,6 +63,8 @@ pub fn change_every_in<T, P: Probe<T>, C: Change<T>>(
     change_every(&mut items.items, change)
 }
 
+// Beside a list of which nothing goes it is rare.
+#[inline(never)]
 fn keep_those<T: Drop, P: Probe<T>>(items: &mut List<T>, probe: &P)
     ensures { items.new ≡ filter (P.passes probe.now) items.old }
 {
