@@ -1,7 +1,8 @@
 //! Pages: some items together, which copies have in common.
 
 ghost use Rattle.std.specs.Prelude.{◌≡◌, ◌==◌, true, false, length, filter, map, IfOk, OnOk};
-ghost use Rattle.std.specs.List.{list_all, list_any};
+ghost use Rattle.std.specs.List.{find, list_all, list_any};
+ghost use Rattle.std.specs.Option.{option_copied};
 ghost use Rattle.std.specs.Arc.{arc_value};
 ghost use Rattle.sc_value.specs.Lists.{change_first};
 ghost use Rattle.sc_pages.specs.Outlines.{outline_of};
@@ -10,8 +11,8 @@ ghost use Rattle.sc_pages.specs.Scopes.{is_in};
 use crate::outline::{Outline, outline_of};
 use crate::owning::own;
 use crate::scope::may_have;
-use crate::searching::{all_in, any_in};
-use crate::turning::{change_every, change_one, keep_passing};
+use crate::searching::{all_in, any_in, first_in};
+use crate::turning::{change_every, change_one, keep_those};
 use crate::{Change, Paged, Probe, Scope};
 use sc_value::{CloneIn, List, NoMemory};
 use std::alloc::Global;
@@ -90,6 +91,14 @@ impl<T: Paged> Page<T> {
         ensures { result ≡ list_any (P.passes probe.now) self.now }
     {
         may_have(scope, self.outline) && any_in(self.items.as_slice(), probe)
+    }
+
+    /// The first item that passes.
+    #[inline(never)]
+    pub(crate) fn find<P: Probe<T>>(&self, probe: &P) -> Option<&T>
+        ensures { option_copied result ≡ find (P.passes probe.now) self.now }
+    {
+        first_in(self.items.as_slice(), probe)
     }
 
     /// Changes the first item that passes, where there is one.
@@ -195,7 +204,7 @@ fn keep_of<T: CloneIn, P: Probe<T>>(
     own(alloc, items)?;
     match Arc::get_mut(items) {
         Some(own) => {
-            keep_passing(own, probe);
+            keep_those(own, probe);
             Ok(())
         }
         None => Err(NoMemory),

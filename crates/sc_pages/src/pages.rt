@@ -88,7 +88,7 @@ impl<T: Paged> Pages<T> {
         ensures { option_copied result ≡ find (P.passes probe.now) self.now }
     {
         match self.pages.page_with(scope, probe) {
-            Some(at) => first_in(self.pages.as_slice()[at].items(), probe),
+            Some(at) => self.pages.as_slice()[at].find(probe),
             None => first_in(self.newest.as_slice(), probe),
         }
     }

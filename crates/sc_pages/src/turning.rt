@@ -63,9 +63,9 @@ pub fn change_every_in<T, P: Probe<T>, C: Change<T>>(
     change_every(&mut items.items, change)
 }
 
-// Beside a list of which nothing goes it is rare.
+/// Takes the items away that don't pass. It is rare beside a list of which all pass.
 #[inline(never)]
-fn keep_those<T: Drop, P: Probe<T>>(items: &mut List<T>, probe: &P)
+pub fn keep_those<T: Drop, P: Probe<T>>(items: &mut List<T>, probe: &P)
     ensures { items.new ≡ filter (P.passes probe.now) items.old }
 {
     items.items.retain(|item| probe.passes(item));
