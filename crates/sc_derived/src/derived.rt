@@ -1,11 +1,11 @@
 //! The SipSession of a response to an initial INVITE or SUBSCRIBE: derived SipSessions (JSR 289
 //! section 6.2.3).
 
-ghost use Rattle.std.specs.Prelude.{◌≡◌, ◌&&◌, None, false, nat_lt, not, option_and_then, option_map, position, IfOk};
+ghost use Rattle.std.specs.Prelude.{◌≡◌, ◌&&◌, None, nat_lt, not, option_and_then, option_map, position, IfOk};
 ghost use Rattle.std.specs.List.{find};
-ghost use Rattle.std.specs.Option.{option_copied, option_map_or};
+ghost use Rattle.std.specs.Option.{option_copied};
 ghost use Rattle.sc_value.specs.Lists.{change_first};
-ghost use Rattle.sc_hosts.specs.Looking.{is_session, same_request, session_count};
+ghost use Rattle.sc_hosts.specs.Looking.{is_session, session_count};
 ghost use Rattle.sc_hosts.specs.DerivedSessions.{claims, derived_got, derived_leg, derived_session, handled_in, handling, handling_by, handling_of, is_of, is_subscribed, sessions_of, takes_tag};
 ghost use Rattle.sc_hosts.specs.DerivedSessions.{Handling};
 ghost use Rattle.sc_hosts.specs.PreparingResponses.{is_invalid};
@@ -13,7 +13,7 @@ ghost use Rattle.sc_derived.specs.Claims.{claims_of, with_peer_tag};
 
 use sc_effects::{is_uac, new_session};
 use sc_legs::{first_got, is_invalid, is_overtaken_leg, leg_of, same_tag};
-use sc_looking::session_place;
+use sc_looking::{is_first, session_count, session_place};
 use sc_messages::makes_dialog;
 use sc_methods::{is_invite, is_subscribe, is_success};
 use sc_state::{Got, Known, Leg, Session};
@@ -23,15 +23,6 @@ use std::alloc::Global;
 
 // How many SipSessions there are at most.
 const MOST_SESSIONS: usize = 64;
-
-fn is_first(first: Option<ReqId>, req: ReqId) -> bool
-    ensures { result ≡ option_map_or (same_request req) first false }
-{
-    match first {
-        Some(first) => req.0 == first.0,
-        None => false,
-    }
-}
 
 /// Whether a SipSession is one of the request.
 #[tactic(auto, unfolding(sc_hosts::specs::DerivedSessions::is_of))]
@@ -217,17 +208,6 @@ fn derive(
     session.view.sessions.push(derived)?;
     session.known.legs.push(leg)?;
     Ok(id)
-}
-
-#[tactic(auto, unfolding(sc_hosts::specs::Looking::session_count))]
-fn session_count(view: &View) -> usize
-    ensures { result ≡ session_count view.entry.now }
-{
-    view.sessions
-        .as_slice()
-        .iter()
-        .filter(|session| !session.gone)
-        .count()
 }
 
 // Whether a further SipSession can be derived from this one.

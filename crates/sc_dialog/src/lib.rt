@@ -14,6 +14,6 @@ mod targets;
 
 pub use dialog::Dialog;
 pub use refused::DialogRefused;
-pub use requests::{ack_request, asked_method, is_askable, kept_fields, next_request};
+pub use requests::{ack_request, asked_method, cseq, is_askable, kept_fields, next_request};
 pub use sc_terms::Inside;
-pub use targets::{request_target, response_target};
+pub use targets::{request_target, response_target, sets_target};

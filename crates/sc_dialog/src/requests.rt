@@ -191,7 +191,8 @@ fn head_of(
     }
 }
 
-fn cseq(alloc: Global, number: u32, method: &Token) -> Result<CSeq, NoMemory>
+/// A sequence number with its method.
+pub fn cseq(alloc: Global, number: u32, method: &Token) -> Result<CSeq, NoMemory>
     requires { number < 2 ^ 31 }
     ensures { IfOk result (λ c. c ≡ record { number = number; method = method.now }) }
 {

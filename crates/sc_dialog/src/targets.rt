@@ -53,8 +53,9 @@ fn answers_first(begun: &Option<CSeq>, cseq: &CSeq) -> bool
     }
 }
 
+/// Whether a request of this method sets the target of a dialog.
 #[tactic(auto, unfolding(sc_model::specs::Dialogs::sets_target, sc_model::specs::Dialogs::update, sc_model::specs::Dialogs::subscribe, sc_model::specs::Dialogs::notify, sc_model::specs::Dialogs::refer, sc_model::specs::SessionStates::invite))]
-fn sets_target(method: &[u8]) -> bool
+pub fn sets_target(method: &[u8]) -> bool
     ensures { result ≡ sets_target method.now }
 {
     method == b"INVITE".as_slice()

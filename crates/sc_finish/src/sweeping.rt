@@ -4,13 +4,13 @@ ghost use Rattle.std.specs.Prelude.{◌≡◌, ◌++◌, false, OnOk, IfOk, map,
 ghost use Rattle.std.specs.List.{fold};
 ghost use Rattle.std.specs.Option.{option_copied, option_map_or};
 ghost use Rattle.sc_hosts.specs.Finishing.{can_derive, can_succeed, is_needed, lacks_final, swept, without_acks, without_unneeded};
-ghost use Rattle.sc_hosts.specs.Looking.{request_in, same_request};
+ghost use Rattle.sc_hosts.specs.Looking.{request_in};
 ghost use Rattle.sc_finish.specs.Sweeps.{can_be_needed, goes, id_of, stays, without};
 
 use crate::readiness::{is_session_ready, lacks_final};
 use sc_effects::{removed, tidy};
 use sc_legs::leg_among;
-use sc_looking::{is_gone_in, request_in};
+use sc_looking::{is_first, is_gone_in, request_in};
 use sc_methods::{is_ack, is_invite};
 use sc_pages::{Pages, Probe, Scope};
 use sc_state::{Kept, Known, Leg, Session, Way};
@@ -102,15 +102,6 @@ fn lacks_final_of(view: &View, req: ReqId) -> bool
 {
     match request_in(view, req) {
         Some(request) => lacks_final(request),
-        None => false,
-    }
-}
-
-fn is_first(first: Option<ReqId>, req: ReqId) -> bool
-    ensures { result ≡ option_map_or (same_request req) first false }
-{
-    match first {
-        Some(first) => req.0 == first.0,
         None => false,
     }
 }

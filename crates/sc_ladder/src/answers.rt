@@ -1,7 +1,7 @@
 //! The answers of calls in short.
 
 use sc_terms::{CallAnswer, Refusal, State};
-use sc_value::{NoMemory, Text, write_u64};
+use sc_value::{NoMemory, Text, write_counted, write_u64};
 
 /// Appends the answer of a call: nothing of one that is fine.
 pub fn write_answer(answer: CallAnswer, out: &mut Text) -> Result<(), NoMemory> {
@@ -24,16 +24,11 @@ fn write_refusal(refusal: Refusal, out: &mut Text) -> Result<(), NoMemory> {
             out.append(b"WrongState ")?;
             out.append(state_name(state))
         }
-        Refusal::AlreadyLinked(sess) => write_counted(b"AlreadyLinked ", sess.0, out),
-        Refusal::Limit(number) => write_counted(b"Limit ", number, out),
-        Refusal::BadText(number) => write_counted(b"BadText ", number, out),
+        Refusal::AlreadyLinked(sess) => write_counted(b"AlreadyLinked ", u64::from(sess.0), out),
+        Refusal::Limit(number) => write_counted(b"Limit ", u64::from(number), out),
+        Refusal::BadText(number) => write_counted(b"BadText ", u64::from(number), out),
         other => out.append(refusal_name(other)),
     }
-}
-
-fn write_counted(name: &[u8], number: u32, out: &mut Text) -> Result<(), NoMemory> {
-    out.append(name)?;
-    write_u64(u64::from(number), out)
 }
 
 fn refusal_name(refusal: Refusal) -> &'static [u8] {

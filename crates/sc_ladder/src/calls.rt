@@ -2,7 +2,7 @@
 
 use crate::answers::write_answer;
 use sc_terms::{Answer, Call, CallRecord, ProxyOptions, Target};
-use sc_value::{Directive, NoMemory, ReqId, SessId, Text, TimerId, write_u64};
+use sc_value::{Directive, NoMemory, ReqId, SessId, Text, TimerId, write_counted, write_u64};
 
 /// Appends a call with its answer in short.
 pub fn write_record(record: &CallRecord, out: &mut Text) -> Result<(), NoMemory> {
@@ -22,8 +22,8 @@ fn write_call(call: &Call, out: &mut Text) -> Result<(), NoMemory> {
             directive,
             ..
         } => write_directive(*draft, *directive, out),
-        Call::Send { draft } => write_counted(b"send ", *draft, out),
-        Call::Discard { draft } => write_counted(b"discard ", *draft, out),
+        Call::Send { draft } => write_counted(b"send ", u64::from(*draft), out),
+        Call::Discard { draft } => write_counted(b"discard ", u64::from(*draft), out),
         Call::Ack { .. } => out.append(b"ack"),
         Call::Cancel { req } => write_on_request(b"cancel ", *req, out),
         Call::ProxyTo {
@@ -64,25 +64,20 @@ fn write_named(name: &[u8], what: &Text, out: &mut Text) -> Result<(), NoMemory>
     out.append(what.as_bytes())
 }
 
-fn write_counted(name: &[u8], number: u32, out: &mut Text) -> Result<(), NoMemory> {
-    out.append(name)?;
-    write_u64(u64::from(number), out)
-}
-
 fn write_on_request(name: &[u8], req: ReqId, out: &mut Text) -> Result<(), NoMemory> {
-    write_counted(name, req.0, out)
+    write_counted(name, u64::from(req.0), out)
 }
 
 fn write_on_session(name: &[u8], sess: SessId, out: &mut Text) -> Result<(), NoMemory> {
-    write_counted(name, sess.0, out)
+    write_counted(name, u64::from(sess.0), out)
 }
 
 fn write_on_timer(name: &[u8], id: TimerId, out: &mut Text) -> Result<(), NoMemory> {
-    write_counted(name, id.0, out)
+    write_counted(name, u64::from(id.0), out)
 }
 
 fn write_directive(draft: u32, directive: Directive, out: &mut Text) -> Result<(), NoMemory> {
-    write_counted(b"set_directive ", draft, out)?;
+    write_counted(b"set_directive ", u64::from(draft), out)?;
     match directive {
         Directive::New => out.append(b" new"),
         Directive::Continue => out.append(b" continue"),
@@ -114,18 +109,18 @@ fn write_options(options: ProxyOptions, out: &mut Text) -> Result<(), NoMemory> 
 }
 
 fn write_link(a: SessId, b: SessId, out: &mut Text) -> Result<(), NoMemory> {
-    write_counted(b"link ", a.0, out)?;
-    write_counted(b" ", b.0, out)
+    write_counted(b"link ", u64::from(a.0), out)?;
+    write_counted(b" ", u64::from(b.0), out)
 }
 
 fn write_start(delay_ms: u32, out: &mut Text) -> Result<(), NoMemory> {
-    write_counted(b"start_timer ", delay_ms, out)?;
+    write_counted(b"start_timer ", u64::from(delay_ms), out)?;
     out.append(b" ms")
 }
 
 fn write_expires(minutes: i32, out: &mut Text) -> Result<(), NoMemory> {
     match u32::try_from(minutes) {
-        Ok(minutes) if minutes > 0 => write_counted(b"set_expires ", minutes, out),
+        Ok(minutes) if minutes > 0 => write_counted(b"set_expires ", u64::from(minutes), out),
         _ => out.append(b"set_expires never"),
     }
 }

@@ -3,7 +3,7 @@
 use crate::columns::{Column, Spot, column_of, place_of, width};
 use crate::places::write_place;
 use crate::story::{Mark, Row, Stop};
-use sc_value::{NoMemory, Place, Text, write_u64};
+use sc_value::{NoMemory, Place, Text, write_plain, write_u64};
 use std::alloc::Global;
 
 /// A line has at most so many bytes.
@@ -25,7 +25,7 @@ pub fn header(alloc: Global, columns: &[Column]) -> Result<Text, NoMemory> {
     let mut line = Text::from_slice(alloc, b"     ms")?;
     for column in columns {
         pad(column.spot.at, &mut line)?;
-        append_plain(column.name.as_bytes(), &mut line)?;
+        write_plain(column.name.as_bytes(), &mut line)?;
     }
     ended(alloc, &line)
 }
@@ -48,7 +48,7 @@ pub fn line_of(
 /// Appends what a row says: the outside place that isn't drawn, and the row's text.
 pub fn write_label(row: &Row, columns: &[Column], line: &mut Text) -> Result<(), NoMemory> {
     write_missing(row.mark, columns, line)?;
-    append_plain(row.text.as_bytes(), line)
+    write_plain(row.text.as_bytes(), line)
 }
 
 /// Appends the moment where it is another than that of the row before.
@@ -187,22 +187,6 @@ fn write_end(
     line.append(word)?;
     write_place(place, line)?;
     line.append(b": ")
-}
-
-/// Appends bytes, with `?` for each that isn't a printable character of ASCII.
-pub fn append_plain(bytes: &[u8], line: &mut Text) -> Result<(), NoMemory> {
-    for byte in bytes {
-        line.append(&[plain(*byte)])?;
-    }
-    Ok(())
-}
-
-fn plain(byte: u8) -> u8 {
-    if (32..=126).contains(&byte) {
-        byte
-    } else {
-        b'?'
-    }
 }
 
 /// A line as far as it is written, with a line feed.

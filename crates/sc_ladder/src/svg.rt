@@ -3,11 +3,10 @@
 
 use crate::boxes::{write_mark, write_moment, write_said};
 use crate::columns::{Column, Spot};
-use crate::drawing::append_plain;
 use crate::elements::{Point, write_line, write_size, write_words};
 use crate::sizes::{LINE, Size, drawn_words, lane_x};
 use crate::story::Row;
-use sc_value::{NoMemory, Text, write_u64};
+use sc_value::{NoMemory, Text, write_plain, write_u64};
 use std::alloc::Global;
 
 const STYLE: &[u8] = b"\
@@ -70,7 +69,7 @@ fn write_lane(
     out: &mut Text,
 ) -> Result<(), NoMemory> {
     let mut name = Text::new(alloc);
-    append_plain(column.name.as_bytes(), &mut name)?;
+    write_plain(column.name.as_bytes(), &mut name)?;
     write_named(column.spot, name.as_bytes(), floor, out)
 }
 
@@ -130,7 +129,7 @@ fn write_closing(
             )?;
             line = Text::new(alloc);
         } else {
-            append_plain(&[*byte], &mut line)?;
+            write_plain(&[*byte], &mut line)?;
         }
     }
     Ok(())

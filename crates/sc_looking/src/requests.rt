@@ -1,15 +1,25 @@
 //! What the requests of a view tell, and which attributes are set.
 
-ghost use Rattle.std.specs.Prelude.{◌≡◌, ◌&&◌};
+ghost use Rattle.std.specs.Prelude.{◌≡◌, ◌&&◌, false};
 ghost use Rattle.std.specs.List.{find};
-ghost use Rattle.std.specs.Option.{option_copied};
-ghost use Rattle.sc_hosts.specs.Looking.{same_session};
+ghost use Rattle.std.specs.Option.{option_copied, option_map_or};
+ghost use Rattle.sc_hosts.specs.Looking.{same_request, same_session};
 ghost use Rattle.sc_hosts.specs.Refusals.{awaits_ack, begun_by, is_set};
 
 use crate::views::has_session;
 use sc_pages::{Probe, Scope};
 use sc_terms::{RequestView, View};
-use sc_value::{Field, SessId};
+use sc_value::{Field, ReqId, SessId};
+
+/// Whether the first request, where there is one, has this number.
+pub fn is_first(first: Option<ReqId>, req: ReqId) -> bool
+    ensures { result ≡ option_map_or (same_request req) first false }
+{
+    match first {
+        Some(first) => req.0 == first.0,
+        None => false,
+    }
+}
 
 /// Whether a request is a sent INVITE whose 2xx in this SipSession has no ACK.
 pub fn awaits_ack(request: &RequestView, sess: SessId) -> bool

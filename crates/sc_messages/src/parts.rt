@@ -1,21 +1,11 @@
 //! The parts of a head, finished before the head is built, and changes of one part of a message.
 
-ghost use Rattle.std.specs.Prelude.{◌≡◌, ◌<◌, ◌^◌, [], IfOk};
+ghost use Rattle.std.specs.Prelude.{◌≡◌, []};
 
 use sc_value::{
-    Address, CSeq, CloneIn, Contact, Head, HeaderValue, List, NoMemory, Others, Request, Response,
-    Shared, SharedList, Text, Token, Uri, Via,
+    Address, Contact, Head, List, Names, Others, Request, Response, SharedList, Text, Uri, Via,
 };
 use std::alloc::Global;
-
-/// What names the transaction and the dialog of a message.
-#[derive(Drop)]
-pub struct Names {
-    pub from: Shared<Address>,
-    pub to: Shared<Address>,
-    pub call_id: HeaderValue,
-    pub cseq: CSeq,
-}
 
 /// What a message says.
 #[derive(Drop)]
@@ -70,40 +60,6 @@ pub fn no_content(alloc: Global) -> Content
         others: Others::new(alloc),
         body: Text::new(alloc),
     }
-}
-
-/// What names the transaction and the dialog of a message.
-pub fn names_of(alloc: Global, head: &Head) -> Result<Names, NoMemory>
-    ensures { IfOk result
-        (λ n.
-        n
-        ≡ record {
-          from = head.now.from;
-          to = head.now.to;
-          call_id = head.now.call_id;
-          cseq = head.now.cseq;
-        }) }
-{
-    let call_id = head.call_id.clone_in(alloc)?;
-    let cseq = head.cseq.clone_in(alloc)?;
-    let from = head.from.clone_in(alloc)?;
-    let to = head.to.clone_in(alloc)?;
-    Ok(Names {
-        from,
-        to,
-        call_id,
-        cseq,
-    })
-}
-
-/// A sequence number with its method.
-pub fn cseq(alloc: Global, number: u32, method: &Token) -> Result<CSeq, NoMemory>
-    requires { number < 2 ^ 31 }
-    ensures { IfOk result (λ c. c ≡ record { number = number; method = method.now }) }
-{
-    let method = method.clone_in(alloc)?;
-    method.known();
-    Ok(CSeq { number, method })
 }
 
 /// Puts these Vias in place of a request's own.

@@ -1,22 +1,19 @@
 //! Requests: the own ones, those that are passed on, CANCEL and ACK.
 
 ghost use Rattle.std.specs.Prelude.{◌≡◌, ◌∷◌, [], unwrap_or, map, if◌then◌else◌, IfOk};
-ghost use Rattle.sc_model.specs.Dialogs.{sets_target};
 ghost use Rattle.sc_model.specs.Responses.{kept_field};
 ghost use Rattle.sc_hosts.specs.Messages.{ack_of, asked_request, begins_dialog, cancel_of, from_here, kin, leg_request, on_branch, own_address, passed_request, proxied_request};
 ghost use Rattle.sc_model.specs.Responses.{address_with_tag, address_without_tag};
 
 use crate::own::{own_address, own_via};
-use crate::parts::{
-    Content, Names, cseq, head_of, no_content, set_contact, set_record_route, set_uri, set_via,
-};
+use crate::parts::{Content, head_of, no_content, set_contact, set_record_route, set_uri, set_via};
 use crate::sides::{tagged, untagged};
 use crate::vias::{behind, top_via};
-use sc_dialog::{asked_method, kept_fields};
+use sc_dialog::{asked_method, cseq, kept_fields, sets_target};
 use sc_terms::{Ask, Config, View};
 use sc_value::{
-    Address, AppId, CloneIn, Contact, Head, HeaderValue, List, NoMemory, Request, Response, Shared,
-    SharedList, Text, Token, Uri,
+    Address, AppId, CloneIn, Contact, Head, HeaderValue, List, Names, NoMemory, Request, Response,
+    Shared, SharedList, Text, Token, Uri,
 };
 use std::alloc::Global;
 
@@ -70,18 +67,6 @@ pub fn own_contact(
     let mut contact = List::new(alloc);
     contact.push(Contact::At(address))?;
     SharedList::from_list(alloc, contact)
-}
-
-/// Whether a request of this method sets the target of a dialog.
-#[tactic(auto, unfolding(sc_model::specs::Dialogs::sets_target, sc_model::specs::Dialogs::update, sc_model::specs::Dialogs::subscribe, sc_model::specs::Dialogs::notify, sc_model::specs::Dialogs::refer, sc_model::specs::SessionStates::invite))]
-pub fn sets_target(method: &[u8]) -> bool
-    ensures { result ≡ sets_target method.now }
-{
-    method == b"INVITE".as_slice()
-        || method == b"UPDATE".as_slice()
-        || method == b"SUBSCRIBE".as_slice()
-        || method == b"NOTIFY".as_slice()
-        || method == b"REFER".as_slice()
 }
 
 /// Whether the request begins a dialog where it is accepted.

@@ -6,17 +6,16 @@ ghost use Rattle.sc_model.specs.Responses.{kept_field, response_head, response_t
 ghost use Rattle.sc_hosts.specs.Messages.{answered_here, bad_response, bare_answer, given_response, makes_dialog, own_response, trying_response, with_routes, without_via};
 
 use crate::parts::{
-    Content, Names, head_of, names_of, no_content, set_response_contact, set_response_routes,
-    set_response_via,
+    Content, head_of, no_content, set_response_contact, set_response_routes, set_response_via,
 };
-use crate::requests::{begins_dialog, own_contact, sets_target};
+use crate::requests::{begins_dialog, own_contact};
 use crate::sides::with_tag;
 use crate::vias::below;
-use sc_dialog::kept_fields;
+use sc_dialog::{kept_fields, sets_target};
 use sc_terms::{Answer, Config, View};
 use sc_value::{
-    Answerable, CloneIn, Discard, Head, List, NoMemory, Reason, Request, Response, Shared,
-    SharedList, Text, is_one_line,
+    Answerable, CloneIn, Discard, Head, List, Names, NoMemory, Reason, Request, Response, Shared,
+    SharedList, Text, is_one_line, names_of,
 };
 use std::alloc::Global;
 

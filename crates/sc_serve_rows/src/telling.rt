@@ -4,13 +4,8 @@ use crate::answers::{KNOWN, Known};
 use sc_edge::{Closing, Listing, MemEdge, Noted};
 use sc_switch::{Journal, Ran, Status};
 use sc_terms::Step;
-use sc_value::{NoMemory, Place, Text, write_u64};
+use sc_value::{NoMemory, Place, Text, write_counted};
 use std::alloc::Global;
-
-fn tell_number(words: &[u8], number: u64, told: &mut Text) -> Result<(), NoMemory> {
-    told.append(words)?;
-    write_u64(number, told)
-}
 
 fn name_of(status: &Status) -> &'static [u8] {
     match status {
@@ -41,14 +36,14 @@ pub fn tell_ran(ran: &Ran, told: &mut Text) -> Result<(), NoMemory> {
 }
 
 fn tell_journal(ran: &Ran, journal: &Journal<Step>, told: &mut Text) -> Result<(), NoMemory> {
-    tell_number(b" epoch ", u64::from(ran.epoch), told)?;
-    tell_number(b" from ", ran.began, told)?;
-    tell_number(b" steps ", journal.len(), told)
+    write_counted(b" epoch ", u64::from(ran.epoch), told)?;
+    write_counted(b" from ", ran.began, told)?;
+    write_counted(b" steps ", journal.len(), told)
 }
 
 /// Puts how often the edge was polled, what its places took, and its closes.
 pub fn tell_edge(alloc: Global, edge: &MemEdge, told: &mut Text) -> Result<(), NoMemory> {
-    tell_number(b"polls ", edge.polls(), told)?;
+    write_counted(b"polls ", edge.polls(), told)?;
     told.append(b"\n")?;
     for number in 1..=3 {
         tell_took(number, &edge.took(alloc, Place::Back(number))?, told)?;
@@ -61,7 +56,7 @@ pub fn tell_took(number: u64, took: &Text, told: &mut Text) -> Result<(), NoMemo
     if took.is_empty() {
         return Ok(());
     }
-    tell_number(b"c", number, told)?;
+    write_counted(b"c", number, told)?;
     tell_texts(took.as_bytes(), told)?;
     told.append(b"\n")
 }
@@ -85,7 +80,7 @@ fn tell_rest(count: u64, told: &mut Text) -> Result<(), NoMemory> {
     if count == 0 {
         return Ok(());
     }
-    tell_number(b" ", count, told)?;
+    write_counted(b" ", count, told)?;
     told.append(b" bytes;")
 }
 
@@ -112,10 +107,10 @@ fn tell_closes(closes: Option<&[Closing]>, told: &mut Text) -> Result<(), NoMemo
 
 fn tell_close(closing: Closing, told: &mut Text) -> Result<(), NoMemory> {
     match closing.place {
-        Place::Back(number) => tell_number(b"closed c", number, told)?,
-        Place::To(_, port) => tell_number(b"closed ", u64::from(port), told)?,
+        Place::Back(number) => write_counted(b"closed c", number, told)?,
+        Place::To(_, port) => write_counted(b"closed ", u64::from(port), told)?,
     }
-    tell_number(b" after poll ", closing.polls, told)?;
+    write_counted(b" after poll ", closing.polls, told)?;
     told.append(b"\n")
 }
 
@@ -134,12 +129,12 @@ pub fn tell_noted(noted: Option<&[Noted<Journal<Step>>]>, told: &mut Text) -> Re
 
 fn tell_note(noted: &Noted<Journal<Step>>, told: &mut Text) -> Result<(), NoMemory> {
     match noted {
-        Noted::Step(count) => tell_number(b"step ", *count, told)?,
-        Noted::Part(journal) => tell_number(b"part of ", journal.len(), told)?,
+        Noted::Step(count) => write_counted(b"step ", *count, told)?,
+        Noted::Part(journal) => write_counted(b"part of ", journal.len(), told)?,
         Noted::Epoch(number, began, journal) => {
-            tell_number(b"epoch ", u64::from(*number), told)?;
-            tell_number(b" from ", *began, told)?;
-            tell_number(b" of ", journal.len(), told)?;
+            write_counted(b"epoch ", u64::from(*number), told)?;
+            write_counted(b" from ", *began, told)?;
+            write_counted(b" of ", journal.len(), told)?;
         }
         Noted::List(listing) => tell_listing(listing, told)?,
     }
@@ -147,8 +142,8 @@ fn tell_note(noted: &Noted<Journal<Step>>, told: &mut Text) -> Result<(), NoMemo
 }
 
 fn tell_listing(listing: &Listing, told: &mut Text) -> Result<(), NoMemory> {
-    tell_number(b"list of epoch ", u64::from(listing.epoch), told)?;
-    tell_number(b" steps ", listing.steps, told)?;
-    tell_number(b" live ", listing.live.len() as u64, told)?;
-    tell_number(b" waiting ", listing.waiting, told)
+    write_counted(b"list of epoch ", u64::from(listing.epoch), told)?;
+    write_counted(b" steps ", listing.steps, told)?;
+    write_counted(b" live ", listing.live.len() as u64, told)?;
+    write_counted(b" waiting ", listing.waiting, told)
 }

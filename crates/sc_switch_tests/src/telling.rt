@@ -3,26 +3,20 @@
 use sc_edge::Listing;
 use sc_switch::{Committed, EpochRefused, StepRefused};
 use sc_value::{
-    AppId, Message, NoMemory, Place, Request, Response, Sent, Text, branch, tag, write_u64,
+    AppId, Message, NoMemory, Place, Request, Response, Sent, Text, branch, tag, write_counted,
 };
-
-/// Puts words and a number.
-pub fn tell_number(words: &[u8], number: u64, told: &mut Text) -> Result<(), NoMemory> {
-    told.append(words)?;
-    write_u64(number, told)
-}
 
 /// Puts words and the name of an application session.
 pub fn tell_app(words: &[u8], app: AppId, told: &mut Text) -> Result<(), NoMemory> {
-    tell_number(words, u64::from(app.host), told)?;
-    tell_number(b"-", app.serial, told)
+    write_counted(words, u64::from(app.host), told)?;
+    write_counted(b"-", app.serial, told)
 }
 
 /// Puts a connection, or the port of an address.
 pub fn tell_place(place: Place, told: &mut Text) -> Result<(), NoMemory> {
     match place {
-        Place::Back(number) => tell_number(b"c", number, told),
-        Place::To(_, port) => tell_number(b"", u64::from(port), told),
+        Place::Back(number) => write_counted(b"c", number, told),
+        Place::To(_, port) => write_counted(b"", u64::from(port), told),
     }
 }
 
@@ -45,7 +39,7 @@ fn tell_request(request: &Request, told: &mut Text) -> Result<(), NoMemory> {
 }
 
 fn tell_response(response: &Response, told: &mut Text) -> Result<(), NoMemory> {
-    tell_number(b" ", u64::from(response.code), told)?;
+    write_counted(b" ", u64::from(response.code), told)?;
     tell_word(tag(&response.head.to), told)
 }
 
@@ -82,8 +76,8 @@ pub fn tell_refused(cause: StepRefused, told: &mut Text) -> Result<(), NoMemory>
 }
 
 fn tell_full(steps: u64, bytes: u64, told: &mut Text) -> Result<(), NoMemory> {
-    tell_number(b"JournalFull ", steps, told)?;
-    tell_number(b" ", bytes, told)?;
+    write_counted(b"JournalFull ", steps, told)?;
+    write_counted(b" ", bytes, told)?;
     told.append(b"\n")
 }
 
@@ -91,8 +85,8 @@ fn tell_full(steps: u64, bytes: u64, told: &mut Text) -> Result<(), NoMemory> {
 pub fn tell_answer(answer: Committed, told: &mut Text) -> Result<(), NoMemory> {
     match answer {
         Committed::Taken => told.append(b"Taken")?,
-        Committed::Gone(number) => tell_number(b"Gone ", number, told)?,
-        Committed::Other(number) => tell_number(b"Other ", number, told)?,
+        Committed::Gone(number) => write_counted(b"Gone ", number, told)?,
+        Committed::Other(number) => write_counted(b"Other ", number, told)?,
     }
     told.append(b"\n")
 }
@@ -100,9 +94,9 @@ pub fn tell_answer(answer: Committed, told: &mut Text) -> Result<(), NoMemory> {
 /// Puts the line of why an epoch goes on.
 pub fn tell_unended(cause: EpochRefused, told: &mut Text) -> Result<(), NoMemory> {
     match cause {
-        EpochRefused::Live(number) => tell_number(b"Live ", number, told)?,
-        EpochRefused::Busy(number) => tell_number(b"Busy ", number, told)?,
-        EpochRefused::Unsent(number) => tell_number(b"Unsent ", number, told)?,
+        EpochRefused::Live(number) => write_counted(b"Live ", number, told)?,
+        EpochRefused::Busy(number) => write_counted(b"Busy ", number, told)?,
+        EpochRefused::Unsent(number) => write_counted(b"Unsent ", number, told)?,
         EpochRefused::Last => told.append(b"Last")?,
     }
     told.append(b"\n")
@@ -110,9 +104,9 @@ pub fn tell_unended(cause: EpochRefused, told: &mut Text) -> Result<(), NoMemory
 
 /// Puts the line of a listing.
 pub fn tell_listing(listing: &Listing, told: &mut Text) -> Result<(), NoMemory> {
-    tell_number(b"listing of epoch ", u64::from(listing.epoch), told)?;
-    tell_number(b" steps ", listing.steps, told)?;
-    tell_number(b" waiting ", listing.waiting, told)?;
+    write_counted(b"listing of epoch ", u64::from(listing.epoch), told)?;
+    write_counted(b" steps ", listing.steps, told)?;
+    write_counted(b" waiting ", listing.waiting, told)?;
     told.append(b" live")?;
     tell_apps(listing.live.as_slice(), told)?;
     told.append(b"\n")

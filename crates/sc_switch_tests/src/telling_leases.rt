@@ -1,15 +1,15 @@
 //! What a lease shows, as a line.
 
-use crate::telling::{tell_app, tell_number};
+use crate::telling::tell_app;
 use sc_servlets::Lease;
 use sc_terms::{Event, SessionView, TimerView};
-use sc_value::{NoMemory, Shared, Text};
+use sc_value::{NoMemory, Shared, Text, write_counted};
 
 /// Puts the line of a lease: its numbers and its event, then each SipSession, and each timer with
 /// the moment at which it is due.
 pub fn tell_lease(lease: &Lease, told: &mut Text) -> Result<(), NoMemory> {
-    tell_number(b"lease ", lease.number, told)?;
-    tell_number(b" event ", lease.event_number, told)?;
+    write_counted(b"lease ", lease.number, told)?;
+    write_counted(b" event ", lease.event_number, told)?;
     tell_app(b" of ", lease.app, told)?;
     tell_event(lease.event.as_ref().map(Shared::get), told)?;
     tell_sessions(lease.shown.get().sessions.as_slice(), told)?;
@@ -19,7 +19,7 @@ pub fn tell_lease(lease: &Lease, told: &mut Text) -> Result<(), NoMemory> {
 
 fn tell_event(event: Option<&Event>, told: &mut Text) -> Result<(), NoMemory> {
     match event {
-        Some(Event::Timer { id, .. }) => tell_number(b" Timer ", u64::from(id.0), told),
+        Some(Event::Timer { id, .. }) => write_counted(b" Timer ", u64::from(id.0), told),
         Some(event) => told.append(event_word(event)),
         None => told.append(b" Mute"),
     }
@@ -46,20 +46,20 @@ fn tell_sessions(sessions: &[SessionView], told: &mut Text) -> Result<(), NoMemo
 }
 
 fn tell_session(session: &SessionView, told: &mut Text) -> Result<(), NoMemory> {
-    tell_number(b", session ", u64::from(session.id.0), told)?;
+    write_counted(b", session ", u64::from(session.id.0), told)?;
     if session.gone {
         told.append(b" gone")?;
     }
     match session.linked {
-        Some(other) => tell_number(b" linked to ", u64::from(other.0), told),
+        Some(other) => write_counted(b" linked to ", u64::from(other.0), told),
         None => Ok(()),
     }
 }
 
 fn tell_timers(timers: &[TimerView], told: &mut Text) -> Result<(), NoMemory> {
     for timer in timers {
-        tell_number(b", timer ", u64::from(timer.id.0), told)?;
-        tell_number(b" due ", timer.due, told)?;
+        write_counted(b", timer ", u64::from(timer.id.0), told)?;
+        write_counted(b" due ", timer.due, told)?;
     }
     Ok(())
 }

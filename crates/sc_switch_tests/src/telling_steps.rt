@@ -1,9 +1,9 @@
 //! The steps of a journal, a line each.
 
-use crate::telling::{tell_app, tell_message, tell_number, tell_place};
+use crate::telling::{tell_app, tell_message, tell_place};
 use sc_switch::Journal;
 use sc_terms::{Call, CallAnswer, CallRecord, End, Step};
-use sc_value::{AppId, Message, NoMemory, Place, Text};
+use sc_value::{AppId, Message, NoMemory, Place, Text, write_counted};
 
 /// Puts the lines of all steps.
 pub fn tell_steps(journal: &Journal<Step>, told: &mut Text) -> Result<(), NoMemory> {
@@ -21,7 +21,7 @@ fn tell_step(step: &Step, told: &mut Text) -> Result<(), NoMemory> {
         Step::In(place, message) => tell_in(*place, message, told),
         Step::Bad(place, _) => tell_at(b"Bad ", *place, told),
         Step::Lost(place) => tell_at(b"Lost ", *place, told),
-        Step::Tick(now) => tell_number(b"Tick ", *now, told),
+        Step::Tick(now) => write_counted(b"Tick ", *now, told),
         Step::Withdraw(app) => tell_app(b"Withdraw ", *app, told),
         Step::Turn {
             app,
@@ -49,8 +49,8 @@ fn tell_at(words: &[u8], place: Place, told: &mut Text) -> Result<(), NoMemory> 
 
 fn tell_turn(app: AppId, event: u64, now: u64, told: &mut Text) -> Result<(), NoMemory> {
     tell_app(b"Turn ", app, told)?;
-    tell_number(b" event ", event, told)?;
-    tell_number(b" at ", now, told)
+    write_counted(b" event ", event, told)?;
+    write_counted(b" at ", now, told)
 }
 
 fn end_word(end: End) -> &'static [u8] {

@@ -24,6 +24,7 @@ mod others;
 mod part_copies;
 mod parts;
 mod places;
+mod plain;
 mod reason;
 mod same;
 mod shared;
@@ -42,15 +43,17 @@ pub use header_value::HeaderValue;
 pub use ids::{AppId, Directive, Place, Region, ReqId, SessId, TimerId};
 pub use list::List;
 pub use message::{Head, Message, Request, Response, Sent};
+pub use message_copies::{Names, names_of};
 pub use names::{is_system_name, long_name, same_name};
 pub use no_memory::NoMemory;
-pub use numbers::{number_after, sum, sum_u8, sum_u32, write_u64};
+pub use numbers::{number_after, sum, sum_u8, sum_u32, write_counted, write_u64};
 pub use other_uri::OtherUri;
 pub use others::{Others, is_other};
 pub use parts::{
     Address, CSeq, Contact, Field, Param, SipUri, Uri, Via, branch, plain_address, tag,
 };
 pub use places::same_place;
+pub use plain::write_plain;
 pub use reason::Reason;
 pub use same::Same;
 pub use shared::{Shared, shared_value};

@@ -16,13 +16,13 @@ struct Routing {
     record_route: SharedList<Address>,
 }
 
-/// What names its transaction and its dialog.
+/// What names the transaction and the dialog of a message.
 #[derive(Drop)]
-struct Names {
-    from: Shared<Address>,
-    to: Shared<Address>,
-    call_id: HeaderValue,
-    cseq: CSeq,
+pub struct Names {
+    pub from: Shared<Address>,
+    pub to: Shared<Address>,
+    pub call_id: HeaderValue,
+    pub cseq: CSeq,
 }
 
 /// What else it has.
@@ -64,7 +64,8 @@ fn routing_of(alloc: Global, head: &Head) -> Result<Routing, NoMemory>
     })
 }
 
-fn names_of(alloc: Global, head: &Head) -> Result<Names, NoMemory>
+/// What names the transaction and the dialog of a message with this head.
+pub fn names_of(alloc: Global, head: &Head) -> Result<Names, NoMemory>
     ensures { IfOk result
         (λ n.
         n

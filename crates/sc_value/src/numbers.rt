@@ -17,6 +17,15 @@ pub fn write_u64(n: u64, out: &mut Text) -> Result<(), NoMemory>
     out.append(buffer.format(n).as_bytes())
 }
 
+/// Puts words at the end of a text, and the decimal of a number behind them. For want of memory the
+/// words may stand there alone.
+pub fn write_counted(words: &[u8], number: u64, out: &mut Text) -> Result<(), NoMemory>
+    ensures { OnOk result (out.new ≡ out.old ++ words.now ++ decimal number) }
+{
+    out.append(words)?;
+    write_u64(number, out)
+}
+
 /// The sum. A counter that would pass the greatest number of its type is answered as want of
 /// memory: it would have to count as many things first.
 pub fn sum(a: u64, b: u64) -> Result<u64, NoMemory>

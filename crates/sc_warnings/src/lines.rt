@@ -1,6 +1,6 @@
 //! The lines of warnings.
 
-use sc_value::{NoMemory, Text, write_u64};
+use sc_value::{NoMemory, Text, write_plain, write_u64};
 
 /// Appends a line: what it is about, and what there is to say.
 pub fn write_line(about: &[u8], words: &[u8], out: &mut Text) -> Result<(), NoMemory> {
@@ -46,20 +46,4 @@ fn write_about(about: &[u8], out: &mut Text) -> Result<(), NoMemory> {
     out.append(b"warning: ")?;
     write_plain(about, out)?;
     out.append(b": ")
-}
-
-/// Appends bytes, with `?` for each that isn't a printable character of ASCII.
-fn write_plain(bytes: &[u8], out: &mut Text) -> Result<(), NoMemory> {
-    for byte in bytes {
-        out.append(&[plain(*byte)])?;
-    }
-    Ok(())
-}
-
-fn plain(byte: u8) -> u8 {
-    if (32..=126).contains(&byte) {
-        byte
-    } else {
-        b'?'
-    }
 }
