@@ -13,18 +13,9 @@ use sc_parts::{Choice, Setup};
 use sc_router::next;
 use sc_state::{Net, Note, Session};
 use sc_transact::is_ack;
-use sc_value::{Address, CloneIn, NoMemory, Place, Request, Shared};
+use sc_value::{Address, NoMemory, Place, Request, Shared, copied};
 use sc_wire::{Position, popped_route, position_of, unrouted_initial};
 use std::alloc::Global;
-
-fn copied_route(alloc: Global, route: Option<&Address>) -> Result<Option<Address>, NoMemory>
-    ensures { IfOk result (λ copy. copy ≡ option_copied route.entry) }
-{
-    match route {
-        Some(route) => Ok(Some(route.clone_in(alloc)?)),
-        None => Ok(None),
-    }
-}
 
 // The Route that the router took off, else that which the container did.
 fn route_taken(
@@ -37,7 +28,7 @@ fn route_taken(
 {
     match route {
         Some(route) => Ok(Some(route)),
-        None => copied_route(alloc, popped),
+        None => copied(alloc, popped),
     }
 }
 

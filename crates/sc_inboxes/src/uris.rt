@@ -1,8 +1,7 @@
 //! The own URI by which a request comes, and the session that a URI names.
 
-ghost use Rattle.std.specs.Prelude.{◌≡◌, ◌==◌, ◌+◌, ℕ, true, false, decimal, length, if◌then◌else◌, option_map, position, slice_get, drop, IfOk};
+ghost use Rattle.std.specs.Prelude.{◌≡◌, ◌==◌, ◌+◌, ℕ, true, false, decimal, length, if◌then◌else◌, option_map, slice_get, drop, IfOk};
 ghost use Rattle.std.specs.Option.{option_copied, option_map_or};
-ghost use Rattle.sc_value.specs.Params.{param_value, is_named};
 ghost use Rattle.sc_model.specs.Names.{ap_value};
 ghost use Rattle.sc_model.specs.OwnHosts.{is_own};
 ghost use Rattle.sc_state.specs.Groups.{serial_number};
@@ -15,28 +14,8 @@ use sc_router::is_own;
 use sc_state::{Host, Live, Session, text_number};
 use sc_terms::Config;
 use sc_transact::is_ap_value;
-use sc_value::{
-    Address, AppId, CloneIn, List, NoMemory, Param, Request, Shared, Text, Uri, same_name,
-};
+use sc_value::{Address, AppId, CloneIn, List, NoMemory, Request, Shared, Text, Uri, param_value};
 use std::alloc::Global;
-
-fn param_place(params: &[Param], name: &[u8]) -> Option<usize>
-    ensures { result ≡ position (is_named name.now) params.now }
-{
-    params
-        .iter()
-        .position(|param| same_name(param.name.as_bytes(), name))
-}
-
-#[tactic(auto, unfolding(sc_value::specs::Params::param_value), using(sc_value::proofs::ListFacts::find_position, sc_value::proofs::ListFacts::find_none))]
-fn param_value<'a>(params: &'a [Param], name: &[u8]) -> Option<&'a Text>
-    ensures { option_copied result ≡ param_value name.now params.now }
-{
-    match param_place(params, name) {
-        Some(at) => params[at].value.as_ref(),
-        None => None,
-    }
-}
 
 /// The value of the parameter of this name of a `sip:` URI, None where it has none.
 pub fn uri_param<'a>(uri: &'a Uri, name: &[u8]) -> Option<&'a Text>

@@ -2,7 +2,7 @@
 
 ghost use Rattle.std.specs.Prelude.{◌≡◌, ◌==◌, Some, IfOk, OnOk};
 ghost use Rattle.std.specs.List.{find, list_any};
-ghost use Rattle.sc_value.specs.Lists.{change_first, remove_first};
+ghost use Rattle.sc_value.specs.Lists.{change_first};
 ghost use Rattle.sc_model.specs.Names.{edge_tag};
 ghost use Rattle.sc_hosts.specs.Branches.{ended_by, has_branch, to_cancel};
 ghost use Rattle.sc_hosts.specs.Looking.{is_timer, timer_in};
@@ -13,7 +13,7 @@ ghost use Rattle.sc_hosts.specs.Preparing.{after_timer, has_expired, next_firing
 ghost use Rattle.sc_shown.specs.Shown.{due_at, prepared_as};
 
 use sc_branches::{ended_by, is_invite, is_timed_out, to_cancel};
-use sc_effects::ProxyNumbered;
+use sc_effects::{ProxyNumbered, remove_timer};
 use sc_legs::is_invalid;
 use sc_looking::timer_place;
 use sc_messages::own_response;
@@ -33,16 +33,6 @@ fn renewed(now: u64, timer: &TimerView) -> Result<Option<u64>, NoMemory>
         Period::Once => Ok(None),
         Period::Rate(n) => Ok(Some(sum(timer.due, u64::from(n))?)),
         Period::Delay(n) => Ok(Some(sum(now, u64::from(n))?)),
-    }
-}
-
-#[tactic(auto, using(sc_value::proofs::ListFacts::remove_first_position, sc_value::proofs::ListFacts::remove_first_none))]
-fn end_timer(timers: &mut List<TimerView>, id: TimerId)
-    ensures { timers.new ≡ remove_first (is_timer id) timers.old }
-{
-    match timer_place(timers.as_slice(), id) {
-        Some(at) => drop(timers.items.remove(at)),
-        None => {}
     }
 }
 
@@ -69,7 +59,7 @@ fn fired(view: &mut View, timer: &TimerView, due: Option<u64>)
 {
     match due {
         Some(due) => due_in(&mut view.timers.items, timer.id, due),
-        None => end_timer(&mut view.timers, timer.id),
+        None => remove_timer(&mut view.timers, timer.id),
     }
 }
 

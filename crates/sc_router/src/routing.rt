@@ -11,7 +11,7 @@ use crate::returning::way_back;
 use crate::subscriber::subscriber_of;
 use sc_parts::Choice;
 use sc_terms::{Config, Dar, Modifier, Tuple};
-use sc_value::{Address, CloneIn, Directive, List, NoMemory, Region, Request};
+use sc_value::{Address, CloneIn, Directive, List, NoMemory, Region, Request, copied};
 use std::alloc::Global;
 
 /// Where an initial request goes, by the table of the Default Application Router (JSR 289 appendix
@@ -205,15 +205,6 @@ fn sent_by_two(alloc: Global, route: &Address, behind: Address) -> Result<Choice
     Ok(Choice::Send(routes))
 }
 
-fn copy_of(alloc: Global, route: Option<&Address>) -> Result<Option<Address>, NoMemory>
-    ensures { IfOk result (λ copy. copy ≡ option_copied route.entry) }
-{
-    match route {
-        Some(route) => Ok(Some(route.clone_in(alloc)?)),
-        None => Ok(None),
-    }
-}
-
 // The application of a tuple, with the route that led to it.
 #[tactic(auto, unfolding(sc_model::specs::Choices::app_of))]
 fn app_of(
@@ -227,7 +218,7 @@ fn app_of(
         (λ c. c ≡ app_of request.now order tuple.now (option_copied popped.entry)) }
 {
     let subscriber = subscriber_of(alloc, tuple.subscriber.as_bytes(), request)?;
-    let popped = copy_of(alloc, popped)?;
+    let popped = copied(alloc, popped)?;
     Ok(Choice::App {
         host: tuple.app,
         order,

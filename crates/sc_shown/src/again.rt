@@ -1,26 +1,16 @@
 //! An INVITE that the view shows no more, as a 2xx brings it back (RFC 3261 section 13.2.2.4).
 
-ghost use Rattle.std.specs.Prelude.{◌≡◌, false, position, IfOk, OnOk};
-ghost use Rattle.std.specs.Option.{option_map_or};
-ghost use Rattle.sc_hosts.specs.Looking.{same_request};
+ghost use Rattle.std.specs.Prelude.{◌≡◌, position, IfOk, OnOk};
 ghost use Rattle.sc_hosts.specs.PreparingResponses.{has_begun, insert_request, shown_again, with_request_again};
 ghost use Rattle.sc_shown.specs.Shown.{is_behind};
 
 use sc_legs::leg_of;
+use sc_looking::is_first;
 use sc_pages::Pages;
 use sc_state::{Kept, Known, Session};
 use sc_terms::RequestView;
-use sc_value::{CloneIn, List, NoMemory, ReqId};
+use sc_value::{CloneIn, List, NoMemory};
 use std::alloc::Global;
-
-fn is_same(first: Option<ReqId>, req: ReqId) -> bool
-    ensures { result ≡ option_map_or (same_request req) first false }
-{
-    match first {
-        Some(first) => req.0 == first.0,
-        None => false,
-    }
-}
 
 /// Whether the request began its SipSession.
 #[tactic(auto, unfolding(sc_hosts::specs::PreparingResponses::has_begun))]
@@ -28,7 +18,7 @@ pub fn has_begun(known: &Known, kept: &Kept) -> bool
     ensures { result ≡ has_begun known.now kept.now }
 {
     match leg_of(known, kept.sess) {
-        Some(leg) => is_same(leg.first, kept.id),
+        Some(leg) => is_first(leg.first, kept.id),
         None => false,
     }
 }

@@ -1,4 +1,5 @@
 ghost use Rattle.std.specs.Prelude.{◌≡◌, IfOk};
+ghost use Rattle.std.specs.Option.{option_copied};
 
 use crate::NoMemory;
 use std::alloc::Global;
@@ -16,5 +17,15 @@ impl<T: CloneIn> CloneIn for Option<T> {
             Some(value) => Ok(Some(value.clone_in(alloc)?)),
             None => Ok(None),
         }
+    }
+}
+
+/// A copy of what is looked at, where there is something.
+pub fn copied<T: CloneIn>(alloc: Global, value: Option<&T>) -> Result<Option<T>, NoMemory>
+    ensures { IfOk result (λ copy. copy ≡ option_copied value.entry) }
+{
+    match value {
+        Some(value) => Ok(Some(value.clone_in(alloc)?)),
+        None => Ok(None),
     }
 }

@@ -37,7 +37,7 @@ mod tokens;
 
 pub use answerable::Answerable;
 pub use boxed::Boxed;
-pub use clone_in::CloneIn;
+pub use clone_in::{CloneIn, copied};
 pub use discard::Discard;
 pub use header_value::HeaderValue;
 pub use ids::{AppId, Directive, Place, Region, ReqId, SessId, TimerId};
@@ -50,7 +50,7 @@ pub use numbers::{number_after, sum, sum_u8, sum_u32, write_counted, write_u64};
 pub use other_uri::OtherUri;
 pub use others::{Others, is_other};
 pub use parts::{
-    Address, CSeq, Contact, Field, Param, SipUri, Uri, Via, branch, plain_address, tag,
+    Address, CSeq, Contact, Field, Param, SipUri, Uri, Via, branch, param_value, plain_address, tag,
 };
 pub use places::same_place;
 pub use plain::write_plain;

@@ -161,7 +161,7 @@ pub fn plain_address(alloc: Global, uri: Uri) -> Address
 pub fn tag(address: &Address) -> Option<&Text>
     ensures { option_copied result ≡ param_value tag_name address.now.params }
 {
-    value_in(address.params.as_slice(), b"tag")
+    param_value(address.params.as_slice(), b"tag")
 }
 
 /// The value of the Via's parameter `branch`, None exactly where there is none (RFC 3261 section
@@ -170,20 +170,22 @@ pub fn tag(address: &Address) -> Option<&Text>
 pub fn branch(via: &Via) -> Option<&Text>
     ensures { option_copied result ≡ param_value branch_name via.now.params }
 {
-    value_in(via.params.as_slice(), b"branch")
+    param_value(via.params.as_slice(), b"branch")
 }
 
+/// The value of the first parameter of this name, without regard to case: None where there is none
+/// or it has no value.
 #[tactic(auto, unfolding(crate::specs::Params::param_value), using(crate::proofs::ListFacts::find_position, crate::proofs::ListFacts::find_none))]
-fn value_in<'a>(params: &'a [Param], name: &[u8]) -> Option<&'a Text>
+pub fn param_value<'a>(params: &'a [Param], name: &[u8]) -> Option<&'a Text>
     ensures { option_copied result ≡ param_value name.now params.now }
 {
-    match place_in(params, name) {
+    match param_place(params, name) {
         Some(at) => params[at].value.as_ref(),
         None => None,
     }
 }
 
-fn place_in(params: &[Param], name: &[u8]) -> Option<usize>
+fn param_place(params: &[Param], name: &[u8]) -> Option<usize>
     ensures { result ≡ position (is_named name.now) params.now }
 {
     params
