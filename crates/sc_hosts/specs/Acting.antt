@@ -135,7 +135,8 @@ subscribed_tag tag session =
 -- the view with that tag, where the response is the 2xx to an initial SUBSCRIBE
 unfoldable pub with_subscribed : Proxy → SessId → Response → View → View
 with_subscribed proxy sess response view =
-    if is_some proxy.options && same_bytes proxy.request.method subscribe && is_success response.code
+    if is_some proxy.options && same_bytes proxy.request.method subscribe
+        && is_success response.code
     then change_session sess (subscribed_tag (tag_of response.head.to)) view else view
 
 -- a response goes back to where the request came from, and moves the SipSession
@@ -253,7 +254,12 @@ passed_on config kept working =
     in_view (with_next_branch working.play.view)
     (if same_bytes kept.request.method ack then giving (orders.Acknowledge sent ∷ []) working
     else giving (orders.Send (next_branch working) sent ∷ [])
-    (record working { known = record working.known { proxies = working.known.proxies ++ sent_proxy kept (next_branch working) ∷ [] } }))
+    (record working {
+      known =
+          record working.known {
+            proxies = working.known.proxies ++ sent_proxy kept (next_branch working) ∷ [];
+          };
+    }))
 
 -- a later request of a proxied dialog is passed on, unless the application ended its SipSession
 unfoldable pub passed_later : Config → RequestView → Option Kept → Working → Working

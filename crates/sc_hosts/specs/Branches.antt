@@ -161,7 +161,8 @@ passing_on sess response proxy =
 -- what the first final response of a branch makes of the proxy (RFC 3261 section 16.7)
 unfoldable pub ended_by : ℕ → SessId → Response → Proxy → Proxy
 ended_by number sess response proxy =
-    let ended = with_targets (added_targets proxy response) (with_candidate response (ended_branch number response.code proxy)) in
+    let heard = with_candidate response (ended_branch number response.code proxy) in
+    let ended = with_targets (added_targets proxy response) heard in
     if is_success response.code then passing_on sess response (without_search ended)
     else (if is_global response.code then without_search ended else ended)
 

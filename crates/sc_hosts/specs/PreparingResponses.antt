@@ -103,8 +103,8 @@ responded_in kept request response (sess, session) =
     else showing (with_handled_response kept request response sess session)
     (events.Response kept.id sess response) None []
 
--- ## A 2xx to an INVITE that the view shows no more: it comes again, or from a further place (RFC 3261 section
--- 13.2.2.4)
+-- ## A 2xx to an INVITE that the view shows no more: it comes again, or from a further place (RFC
+-- 3261 section 13.2.2.4)
 
 -- the request began this SipSession
 unfoldable pub has_begun : Known → Kept → Bool

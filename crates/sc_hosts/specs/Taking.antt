@@ -182,14 +182,17 @@ unfoldable pub take_new : {S : Type 0} → Form S → Config → Coming → Note
     → Taken S
 take_new form config coming noted request host =
     let app : AppId = record { host = coming.host; serial = host.last + 1 } in
-    with_trying coming.from coming.now request
-    (without_answer (with_server app (coming.count + 1) coming.from (own_tag config coming.epoch app) request (record host {
-      sessions =
-          host.sessions
-          ++ begun_live form config coming.epoch app coming.now noted request (coming.count + 1)
-          ∷ [];
-      last = host.last + 1;
-    })) (coming.count + 1))
+    let begun =
+          record host {
+            sessions =
+                host.sessions
+                ++ begun_live form config coming.epoch app coming.now noted request (coming.count + 1)
+                ∷ [];
+            last = host.last + 1;
+          } in
+    let tag = own_tag config coming.epoch app in
+    let served = with_server app (coming.count + 1) coming.from tag request begun in
+    with_trying coming.from coming.now request (without_answer served (coming.count + 1))
 
 -- a request that may begin a session does so where it has its note; 503 where as many live as may
 unfoldable pub take_initial : {S : Type 0} → Form S → Config → Coming → Option Note → Request

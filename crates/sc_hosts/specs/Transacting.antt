@@ -26,9 +26,13 @@ use Rattle.sc_model.specs.Transactions.{client_out, has_provisional}
 pub use Rattle.sc_stages.specs.Requests.{top_via, branch_of, method_of}
 unfoldable pub use Rattle.sc_stages.specs.States.{is_over, is_proceeding, is_completed}
 pub use
-    Rattle.sc_state.specs.Standing.{is_invite_client, is_invite_server, is_cancel_client, is_same_app, is_server}
+    Rattle.sc_state.specs.Standing.{is_invite_client, is_invite_server, is_cancel_client}
+pub use
+    Rattle.sc_state.specs.Standing.{is_same_app, is_server}
 unfoldable pub use
-    Rattle.sc_state.specs.Standing.{state_of_client, state_of_server, due_of_client, due_of_server, is_client}
+    Rattle.sc_state.specs.Standing.{state_of_client, state_of_server, due_of_client}
+unfoldable pub use
+    Rattle.sc_state.specs.Standing.{due_of_server, is_client}
 unfoldable pub use
     Rattle.sc_state.specs.Keeping.{lives_here, is_kept_client, is_kept_server, without_ended}
 

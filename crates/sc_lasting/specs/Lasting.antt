@@ -109,8 +109,8 @@ IsSince Good Does config history earlier (turn ∷ later) =
     Good turn.waiting.event
     × AreDone Does
     (first_play
-    (prepared_session config turn.ringing (session_after config history (later ++ earlier)) turn.waiting
-    turn.now).view)
+    (prepared_session config turn.ringing (session_after config history (later ++ earlier))
+    turn.waiting turn.now).view)
     turn.calls
     × IsSince Good Does config history earlier later
 

@@ -34,7 +34,12 @@ trial_table =
 
 -- these, and the script of n calls
 abbrev pub told_of_trial : ℕ → Told
-told_of_trial n = record { config = Some trial_config; dar = Some trial_table; script = Some (generated_text n) }
+told_of_trial n =
+    record {
+      config = Some trial_config;
+      dar = Some trial_table;
+      script = Some (generated_text n);
+    }
 
 -- ## Its line
 
@@ -85,7 +90,8 @@ TrialLeaves setup n write old new statuses.JournalFull journal =
     ReplaysFull setup (Some (generated_text n)) journal × (new ≡ old)
 TrialLeaves setup n write old new statuses.Edge journal = ⊥
 TrialLeaves setup n write old new statuses.NoMemory journal =
-    ReplaysPart setup (Some (generated_text n)) journal × TakesPart old new (trial_line setup n journal)
+    ReplaysPart setup (Some (generated_text n)) journal
+    × TakesPart old new (trial_line setup n journal)
 TrialLeaves setup n write old new (statuses.Script at kind) journal = ⊥
 TrialLeaves setup n write old new statuses.Read journal = ⊥
 TrialLeaves setup n write old new statuses.Write journal =

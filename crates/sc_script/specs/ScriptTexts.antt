@@ -92,7 +92,8 @@ address_in texts = None
 unfoldable pub place_of : Bytes → Option Place
 place_of [] = None
 place_of (b ∷ bs) =
-    if b == 99 then connection_of (decimal_upto MOST_COUNT bs) else address_in (pieces colon (b ∷ bs))
+    if b == 99 then connection_of (decimal_upto MOST_COUNT bs)
+    else address_in (pieces colon (b ∷ bs))
 
 -- ## The rows
 

@@ -26,8 +26,8 @@ is_mark b =
 -- marks: it is one of []/:&+$, or the % of an escape
 unfoldable pub is_param_sign : ℕ → Bool
 is_param_sign b =
-    b == left_bracket || b == right_bracket || b == slash || b == colon || b == ampersand || b == plus
-    || b == dollar || b == percent
+    b == left_bracket || b == right_bracket || b == slash || b == colon || b == ampersand
+    || b == plus || b == dollar || b == percent
 
 -- the byte may stand in the name or the value of a URI's parameter
 unfoldable pub is_param_byte : ℕ → Bool
