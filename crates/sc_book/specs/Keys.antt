@@ -1,4 +1,4 @@
--- Items whose places are their own keys, or just below a next one.
+-- Items whose places are their own keys, or just below a next one. This project's own.
 use Rattle.std.specs.Prelude.{⊤, ◌≡◌, ◌<◌, ℕ, [], ◌∷◌}
 use Rattle.sc_book.specs.Places.{Placed}
 

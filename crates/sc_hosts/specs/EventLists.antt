@@ -1,6 +1,6 @@
 -- The events of an application session over a journal: which were queued, which were handled by a
 -- turn, which wait, and which were dropped or answered as the session ended. And what a reader from
--- outside is shown of a net.
+-- outside is shown of a net. This project's own.
 use Rattle.std.specs.Prelude.{ℕ, ◌+◌, List, [], ◌∷◌, ◌++◌, Option, None, Some, is_some, if◌then◌else◌, nat_lt, length, map, filter, slice_get}
 use Rattle.std.specs.List.{filter_map}
 use Rattle.std.specs.Option.{option_map_or}

@@ -1,4 +1,4 @@
--- Lists that are kept in parts.
+-- Lists that are kept in parts. This project's own.
 use Rattle.std.specs.Prelude.{List}
 use Rattle.std.specs.List.{flat_map}
 
