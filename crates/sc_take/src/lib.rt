@@ -6,6 +6,7 @@ mod beginning;
 mod claims;
 mod later;
 mod responses;
+mod sharing;
 mod sorting;
 mod taking;
 

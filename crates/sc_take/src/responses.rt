@@ -8,37 +8,15 @@ ghost use Rattle.sc_hosts.specs.TakingResponses.{cancelling, response_for, respo
 ghost use Rattle.sc_hosts.specs.Transacting.{client_for, with_client};
 ghost use Rattle.sc_inboxes.specs.TakenParts.{taken_by};
 
+use crate::sharing::share_head;
 use sc_inboxes::{Told, asking, is_full_at, queue, quiet};
 use sc_messages::{ack_of, cancel_of, without_via};
 use sc_parts::{ClientItem, ClientOut};
 use sc_state::{Client, ClientPast, Host, Peer, Queued, Session};
 use sc_terms::Config;
 use sc_transact::{client_for, is_cancel_client, out_of_client, pass_client, with_client};
-use sc_value::{CloneIn, Head, NoMemory, Response, Same, Shared};
+use sc_value::{CloneIn, NoMemory, Response, Shared};
 use std::alloc::Global;
-
-// What is the same as a transaction's own has the transaction's owner from now on. Where the count
-// of its owners is full, nothing is changed.
-fn share<T: Same + CloneIn>(alloc: Global, own: &T, item: &mut T)
-    ensures { item.new ≡ item.old }
-{
-    if own.same(item) {
-        match own.clone_in(alloc) {
-            Ok(copy) => *item = copy,
-            Err(NoMemory) => {}
-        }
-    }
-}
-
-// A response repeats its request's From, Call-ID and Record-Route (RFC 3261 sections 8.2.6.2 and
-// 12.1.1), which are kept once.
-fn share_head(alloc: Global, own: &Head, head: &mut Head)
-    ensures { head.new ≡ head.old }
-{
-    share(alloc, &own.from, &mut head.from);
-    share(alloc, &own.call_id, &mut head.call_id);
-    share(alloc, &own.record_route, &mut head.record_route);
-}
 
 // The response as its session gets it: without the own Via. One from outside was read anew; one of
 // another host has the owners of its request already.
@@ -47,7 +25,7 @@ fn told_response(alloc: Global, client: &Client, response: &Response) -> Result<
 {
     let mut copy = without_via(alloc, response)?;
     match client.peer {
-        Peer::Outside(_) => share_head(alloc, &client.request.get().head, &mut copy.head),
+        Peer::Outside(_) => share_head(alloc, client.request.get(), &mut copy.head),
         Peer::Inside(_) | Peer::Nowhere => {}
     }
     Ok(copy)
