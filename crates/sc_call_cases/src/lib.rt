@@ -1,4 +1,5 @@
-//! Cases on dialogs, transactions, best responses, names, the choice of applications and queues.
+//! Cases on dialogs, transactions, best responses, names, the choice of applications, queues and
+//! lists in pages.
 //! A crate with tests is proved twice, so they stand here.
 #![tactic(auto)]
 
@@ -10,6 +11,8 @@ mod dialog_tests;
 mod due_tests;
 #[cfg(test)]
 mod names_tests;
+#[cfg(test)]
+mod pages_tests;
 #[cfg(test)]
 mod queue_tests;
 #[cfg(test)]
