@@ -35,6 +35,7 @@ impl Paged for Item {
 }
 
 /// Items that are busy.
+#[derive(Clone, Copy)]
 struct Busy;
 
 impl Probe<Item> for Busy {
@@ -46,6 +47,7 @@ impl Probe<Item> for Busy {
 }
 
 /// Items of this number.
+#[derive(Clone, Copy)]
 struct Numbered(u32);
 
 impl Probe<Item> for Numbered {
@@ -57,6 +59,7 @@ impl Probe<Item> for Numbered {
 }
 
 /// An item rests from now on.
+#[derive(Clone, Copy)]
 struct Resting;
 
 impl Change<Item> for Resting {
@@ -68,14 +71,24 @@ impl Change<Item> for Resting {
     }
 }
 
+fn is_one_of(number: u32, numbers: &[u32]) -> bool {
+    for one in numbers {
+        if *one == number {
+            return true;
+        }
+    }
+    false
+}
+
+fn put(pages: &mut Pages<Item>, number: u32, busy: bool) -> Result<(), NoMemory> {
+    pages.push(Item { number, busy })
+}
+
 /// The numbers below this one, in their order, of which these are busy.
-fn numbered(alloc: Global, count: u32, busy: &[u32]) -> Result<Pages<Item>, NoMemory> {
+fn rising(alloc: Global, count: u32, busy: &[u32]) -> Result<Pages<Item>, NoMemory> {
     let mut pages = Pages::new(alloc);
     for number in 0..count {
-        pages.push(Item {
-            number,
-            busy: busy.contains(&number),
-        })?;
+        put(&mut pages, number, is_one_of(number, busy))?;
     }
     Ok(pages)
 }
@@ -100,7 +113,7 @@ fn is_within(runs: &List<Run>, number: u64) -> bool {
 // The 32 newest items stand for themselves, the others in pages of 32.
 #[test]
 fn an_item_is_found_by_its_number(rt: HostRuntime) -> Result<(), Fail> {
-    let pages = numbered(rt.alloc(), 100, &[])?;
+    let pages = rising(rt.alloc(), 100, &[])?;
     for number in [0, 31, 32, 63, 64, 95, 96, 99] {
         let found = pages.find(Scope::Number(number), &Numbered(number));
         assert_eq!(rt; number_of(found), Some(number), "{number}");
@@ -119,7 +132,7 @@ fn the_first_busy_item_is_found(rt: HostRuntime) -> Result<(), Fail> {
         ([98, 0], Some(0)),
         ([98, 99], Some(98)),
     ] {
-        let pages = numbered(rt.alloc(), 100, &busy)?;
+        let pages = rising(rt.alloc(), 100, &busy)?;
         assert_eq!(rt; number_of(pages.find(Scope::Busy, &Busy)), first);
     }
     Ok(())
@@ -127,7 +140,7 @@ fn the_first_busy_item_is_found(rt: HostRuntime) -> Result<(), Fail> {
 
 #[test]
 fn a_change_leaves_a_copy_as_it_was(rt: HostRuntime) -> Result<(), Fail> {
-    let mut pages = numbered(rt.alloc(), 100, &[5, 99])?;
+    let mut pages = rising(rt.alloc(), 100, &[5, 99])?;
     let copy = pages.clone_in(rt.alloc())?;
     pages.change_first(Scope::Busy, &Busy, &Resting)?;
     assert_eq!(rt; number_of(pages.find(Scope::Busy, &Busy)), Some(99));
@@ -140,7 +153,7 @@ fn a_change_leaves_a_copy_as_it_was(rt: HostRuntime) -> Result<(), Fail> {
 
 #[test]
 fn what_passes_is_kept(rt: HostRuntime) -> Result<(), Fail> {
-    let mut pages = numbered(rt.alloc(), 100, &[5, 40, 41, 99])?;
+    let mut pages = rising(rt.alloc(), 100, &[5, 40, 41, 99])?;
     pages.keep(Scope::All, &Busy)?;
     let kept = pages.to_list()?;
     assert_eq!(rt; kept.len(), 4);
@@ -153,11 +166,11 @@ fn what_passes_is_kept(rt: HostRuntime) -> Result<(), Fail> {
 // Pages of which each item rests and no number is wanting make runs. The newest items make none.
 #[test]
 fn resting_items_make_runs(rt: HostRuntime) -> Result<(), Fail> {
-    let runs = numbered(rt.alloc(), 200, &[40])?.resting()?;
+    let runs = rising(rt.alloc(), 200, &[40])?.resting()?;
     for (number, within) in [(0, true), (31, true), (40, false), (64, true), (199, false)] {
         assert_eq!(rt; is_within(&runs, number), within, "{number}");
     }
-    let few = numbered(rt.alloc(), 20, &[])?.resting()?;
+    let few = rising(rt.alloc(), 20, &[])?.resting()?;
     assert!(rt; !is_within(&few, 0));
     Ok(())
 }
