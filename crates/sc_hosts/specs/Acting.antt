@@ -136,7 +136,7 @@ subscribed_tag tag session =
 unfoldable pub with_subscribed : Proxy → SessId → Response → View → View
 with_subscribed proxy sess response view =
     if is_some proxy.options && same_bytes proxy.request.method subscribe
-        && is_success response.code
+    && is_success response.code
     then change_session sess (subscribed_tag (tag_of response.head.to)) view else view
 
 -- a response goes back to where the request came from, and moves the SipSession

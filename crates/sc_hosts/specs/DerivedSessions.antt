@@ -58,7 +58,7 @@ handling_of session original tag None =
     if is_none original.peer_tag then Takes tag
     else
     (if nat_lt (session_count session.view) MOST_SESSIONS
-        && not (option_map_or (λ leg. leg.invalidated) (leg_of session.known original.id) false)
+    && not (option_map_or (λ leg. leg.invalidated) (leg_of session.known original.id) false)
     then Derives tag else In original.id)
 
 -- the same, where a response may have no To tag: it is one in the original

@@ -183,13 +183,13 @@ unfoldable pub take_new : {S : Type 0} → Form S → Config → Coming → Note
 take_new form config coming noted request host =
     let app : AppId = record { host = coming.host; serial = host.last + 1 } in
     let begun =
-          record host {
-            sessions =
-                host.sessions
-                ++ begun_live form config coming.epoch app coming.now noted request (coming.count + 1)
-                ∷ [];
-            last = host.last + 1;
-          } in
+    record host {
+      sessions =
+          host.sessions
+          ++ begun_live form config coming.epoch app coming.now noted request (coming.count + 1)
+          ∷ [];
+      last = host.last + 1;
+    } in
     let tag = own_tag config coming.epoch app in
     let served = with_server app (coming.count + 1) coming.from tag request begun in
     with_trying coming.from coming.now request (without_answer served (coming.count + 1))
