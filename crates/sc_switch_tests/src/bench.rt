@@ -8,14 +8,14 @@ use crate::letters::{info, options};
 use crate::orders::Order;
 use crate::settings::{catalogue, switch_over};
 use crate::telling::{
-    tell_answer, tell_listing, tell_number, tell_refused, tell_sent, tell_taken, tell_unended,
+    tell_answer, tell_listing, tell_refused, tell_sent, tell_taken, tell_unended,
 };
 use crate::telling_leases::tell_lease;
 use crate::telling_steps::tell_steps;
 use sc_message_text::read_message;
 use sc_servlets::{Catalogue, Done, Lease, SipServlet};
 use sc_switch::{CommitRefused, Epoch, Switch};
-use sc_value::{AppId, Discard, Message, NoMemory, Place, Text};
+use sc_value::{AppId, Discard, Message, NoMemory, Place, Text, write_counted};
 use std::alloc::Global;
 use std::collections::VecDeque;
 
@@ -330,10 +330,10 @@ impl Bench {
 /// What the switch tells, and its epochs.
 impl Bench {
     fn count(&mut self) -> Result<(), NoMemory> {
-        tell_number(b"steps ", self.switch.journal().len(), &mut self.told)?;
-        tell_number(b" live ", self.switch.live(), &mut self.told)?;
-        tell_number(b" waiting ", self.switch.waiting(), &mut self.told)?;
-        tell_number(b" leases ", self.switch.leases(), &mut self.told)?;
+        write_counted(b"steps ", self.switch.journal().len(), &mut self.told)?;
+        write_counted(b" live ", self.switch.live(), &mut self.told)?;
+        write_counted(b" waiting ", self.switch.waiting(), &mut self.told)?;
+        write_counted(b" leases ", self.switch.leases(), &mut self.told)?;
         self.told.append(b"\n")
     }
 
@@ -352,15 +352,15 @@ impl Bench {
     // Tells the epoch that ended, and the one that began.
     fn tell_epoch(&mut self, ended: Figures) -> Result<(), NoMemory> {
         self.handed = Text::new(self.alloc);
-        tell_number(b"epoch ", u64::from(ended.number), &mut self.told)?;
-        tell_number(b" from ", ended.began, &mut self.told)?;
-        tell_number(b" steps ", ended.steps, &mut self.told)?;
+        write_counted(b"epoch ", u64::from(ended.number), &mut self.told)?;
+        write_counted(b" from ", ended.began, &mut self.told)?;
+        write_counted(b" steps ", ended.steps, &mut self.told)?;
         self.tell_now()
     }
 
     fn tell_now(&mut self) -> Result<(), NoMemory> {
-        tell_number(b", then ", u64::from(self.switch.epoch()), &mut self.told)?;
-        tell_number(b" from ", self.switch.began(), &mut self.told)?;
+        write_counted(b", then ", u64::from(self.switch.epoch()), &mut self.told)?;
+        write_counted(b" from ", self.switch.began(), &mut self.told)?;
         self.told.append(b"\n")
     }
 
