@@ -1,4 +1,4 @@
--- Pages that have an item.
+-- Pages that have an item. This project's own.
 use Rattle.std.specs.Prelude.{Bool, not, ◌==◌, List, length}
 
 -- whether the page has an item

@@ -1,4 +1,4 @@
--- What is known of the items of a page.
+-- What is known of the items of a page. This project's own.
 use Rattle.std.specs.Prelude.{ℕ, Bool, true, false, ◌&&◌, ◌==◌, ◌+◌, nat_lt, List, [], ◌∷◌, if◌then◌else◌}
 use Rattle.std.specs.List.{fold}
 use Rattle.sc_pages.specs.declared.outline.Outline.{Outline}

@@ -1,4 +1,4 @@
--- Which items can pass a test.
+-- Which items can pass a test. This project's own.
 use Rattle.std.specs.Prelude.{ℕ, Bool, true, not, ◌==◌, ◌&&◌, nat_lt}
 use Rattle.sc_pages.specs.declared.outline.Outline.{Outline}
 use Rattle.sc_pages.specs.declared.scope.Scope.{Scope}

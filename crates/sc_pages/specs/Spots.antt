@@ -1,4 +1,4 @@
--- How far a walk over the items of a list in pages has come.
+-- How far a walk over the items of a list in pages has come. This project's own.
 use Rattle.std.specs.Prelude.{List, ◌++◌, drop}
 use Rattle.sc_queue.specs.Joined.{joined}
 use Rattle.sc_pages.specs.declared.same.Spot.{Spot}

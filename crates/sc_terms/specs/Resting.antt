@@ -1,9 +1,10 @@
--- Requests that rest: the walks of a turn find nothing to do with them.
+-- Requests that rest: the walks of a turn find nothing to do with them. This project's own.
 use Rattle.std.specs.Prelude.{Bool, not, ◌&&◌, ◌==◌, is_none, length, codes}
 use Rattle.sc_tokens.specs.Bytes.{Bytes}
 use Rattle.sc_tokens.specs.Names.{same_bytes}
 use Rattle.sc_terms.specs.declared.views.RequestView.{RequestView}
 
+-- the method of an ACK (RFC 3261 section 17.1.1.3)
 abbrev pub ack_word : Bytes
 ack_word = codes "ACK"
 
