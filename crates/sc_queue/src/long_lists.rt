@@ -5,7 +5,7 @@ ghost use Rattle.std.specs.Option.{option_copied};
 ghost use Rattle.sc_queue.specs.Joined.{joined};
 
 use crate::joining::grown;
-use sc_value::{CloneIn, List, NoMemory, Shared};
+use sc_value::{CloneIn, List, NoMemory, Shared, SharedList};
 use std::alloc::Global;
 use std::marker::Model;
 
@@ -17,7 +17,7 @@ const MOST_OWN: usize = 32;
 #[derive(Drop)]
 pub struct LongList<T> {
     /// The older items, in parts of which none is changed.
-    parts: List<Shared<List<T>>>,
+    parts: SharedList<Shared<List<T>>>,
     /// The newest items.
     newest: List<T>,
     /// How many items there are.
@@ -42,7 +42,7 @@ impl<T> LongList<T> {
         ensures { result ≡ [] }
     {
         LongList {
-            parts: List::new(alloc),
+            parts: SharedList::new(alloc),
             newest: List::new(alloc),
             count: 0,
             alloc,
@@ -72,7 +72,7 @@ impl<T> LongList<T> {
         let count = items.len();
         if count <= MOST_OWN {
             return Ok(LongList {
-                parts: List::new(alloc),
+                parts: SharedList::new(alloc),
                 newest: items,
                 count,
                 alloc,
@@ -134,13 +134,13 @@ fn one_more(count: usize) -> Result<usize, NoMemory>
     }
 }
 
-fn one_part<T: Drop>(alloc: Global, items: List<T>) -> Result<List<Shared<List<T>>>, NoMemory>
+fn one_part<T: Drop>(alloc: Global, items: List<T>) -> Result<SharedList<Shared<List<T>>>, NoMemory>
     ensures { IfOk result (λ parts. joined parts ≡ items) }
 {
     let part = Shared::new(alloc, items)?;
     let mut parts = List::new(alloc);
     parts.push(part)?;
-    Ok(parts)
+    SharedList::from_list(alloc, parts)
 }
 
 fn nth<T>(items: &[T], at: usize) -> Option<&T>
@@ -206,7 +206,7 @@ fn copied<T: CloneIn>(
 #[tactic(auto, using(crate::proofs::Parts::joined_more))]
 fn put<T: CloneIn>(
     alloc: Global,
-    parts: &mut List<Shared<List<T>>>,
+    parts: &mut SharedList<Shared<List<T>>>,
     newest: &mut List<T>,
     item: T,
 ) -> Result<(), NoMemory>
@@ -225,7 +225,7 @@ fn put<T: CloneIn>(
 // The newest items become a part, and this one is the first of the newest.
 fn put_apart<T: CloneIn>(
     alloc: Global,
-    parts: &mut List<Shared<List<T>>>,
+    parts: &mut SharedList<Shared<List<T>>>,
     newest: &mut List<T>,
     item: T,
 ) -> Result<(), NoMemory>
@@ -237,7 +237,7 @@ fn put_apart<T: CloneIn>(
     let mut next = List::new(alloc);
     next.push(item)?;
     let all = grown(alloc, parts.as_slice(), newest.as_slice())?;
-    *parts = all;
+    *parts = SharedList::from_list(alloc, all)?;
     *newest = next;
     Ok(())
 }
